@@ -1,0 +1,28 @@
+use borrow.Author.Needs.{needs}
+use mathlib.Core.Path.{sym, subst}
+use lib.Dec.{T}
+use lib.Ieee.{binary64, fits}
+use Rattle.arithmetic.proofs.Fields.{subnormal, normal, no-nan}
+use Rattle.arithmetic.proofs.sqrt.split.Statement.{statement}
+use Rattle.arithmetic.proofs.sqrt.split.Tie as tie
+
+held : (c : tie.Start) → T (fits binary64 (c .args .x))
+held c = subst T (sym (c .good .0 .1)) tt
+
+float-to-bits-b : tie.Need-float-to-bits-b
+float-to-bits-b c = no-nan (c .args .x) (c .pre)
+
+returns : tie.Need-returns
+returns c = subnormal (c .before .args .x) (held (c .before)) (c .before .pre) (c .if1 .taken)
+
+add-t6 : tie.Need-add-t6
+add-t6 c = search needs
+
+sub-t7 : tie.Need-sub-t7
+sub-t7 c = search needs
+
+returns-2 : tie.Need-returns-2
+returns-2 c = normal (c .before .args .x) (held (c .before)) (c .before .pre) (c .if1 .left)
+
+pub split-spec : {M : Type 1} → statement M
+split-spec = tie.close (tie.spec float-to-bits-b returns add-t6 sub-t7 returns-2)
