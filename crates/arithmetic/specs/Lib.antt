@@ -1,5 +1,6 @@
 pub mod Double
 pub mod Loop
+pub mod First
 pub mod Order
 pub mod Same
 pub mod Outcome

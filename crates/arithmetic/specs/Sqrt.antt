@@ -7,7 +7,9 @@ use lib.Dec.{leb, ltb}
 use lib.Ieee.{Float, nan, inf, fin, binary64, up, down, size, round, lt}
 use lib.Ieee.Scale.{finite}
 use Rattle.arithmetic.specs.Double.{plus-zero}
-use Rattle.arithmetic.specs.declared.outcome.Outcome.the-variants.{Complete, NotFinite, StoredNotFinite}
+use Rattle.arithmetic.specs.Outcome.{complete, refuse, _then_}
+use Rattle.arithmetic.specs.declared.outcome.Outcome.{Outcome}
+use Rattle.arithmetic.specs.declared.outcome.Outcome.the-variants.{NotFinite, StoredNotFinite}
 use Rattle.arithmetic.specs.declared.sqrt.SqrtAnswer.{SqrtAnswer}
 
 -- the whole part of the root of n, for an n of at most 2 * k binary digits: two digits of n for each digit of the root
@@ -52,9 +54,9 @@ sqrt (fin true (suc m) e) = nan
 sqrt (fin false (suc m) e) = rootOf (magnitudeOf (suc m) e)
 
 -- the root as a call of its own: 7 for an operand that is not finite, 9 at step 0 for a negative number, the value then +0.0
-unfoldable pub checkedSqrt : Float → SqrtAnswer
+abbrev pub sqrt-checks : Float → Outcome
+sqrt-checks x = refuse (not (finite x)) (NotFinite 0 0) then refuse (lt x plus-zero) (StoredNotFinite 0)
+
+unfoldable pub checked-sqrt : Float → SqrtAnswer
 unfolding sqrt lt
-checkedSqrt x =
-    cond (not (finite x)) (record { outcome = NotFinite 0 0; value = plus-zero })
-    (cond (lt x plus-zero) (record { outcome = StoredNotFinite 0; value = plus-zero })
-    (record { outcome = Complete; value = sqrt x }))
+checked-sqrt x = record { outcome = sqrt-checks x; value = cond (complete (sqrt-checks x)) (sqrt x) plus-zero }

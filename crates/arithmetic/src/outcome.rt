@@ -1,6 +1,6 @@
 // How a call ends: complete, or with one refusal (document 01, 'Refusals, in checking order').
 ghost use mathlib.Core.Path.{_≡_};
-ghost use Rattle.arithmetic.specs.Outcome.{number, place};
+ghost use Rattle.arithmetic.specs.Outcome.{number, place, complete};
 
 // The refusals stand in checking order.
 pub enum Outcome {
@@ -44,6 +44,12 @@ impl Outcome {
             Outcome::Unsymmetric { row: _, column: _ } => 8,
             Outcome::StoredNotFinite { step: _ } => 9,
         }
+    }
+
+    pub fn complete(self) -> bool
+        ensures { λ r. ⌜ r ≡ complete self ⌝ }
+    {
+        self.number() == 0
     }
 
     pub fn place(self) -> Place

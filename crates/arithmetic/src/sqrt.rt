@@ -4,7 +4,7 @@ ghost use mathlib.Core.Path.{_≡_};
 ghost use Prim.Native.Nat.{_+_, _*_, _^_, _≤_, _<_};
 ghost use lib.Dec.{T};
 ghost use lib.Ieee.Positive.{positive};
-ghost use Rattle.arithmetic.specs.Sqrt.{magnitude, nearestTo, sqrt, checkedSqrt};
+ghost use Rattle.arithmetic.specs.Sqrt.{magnitude, nearestTo, sqrt, checked-sqrt};
 ghost use Rattle.arithmetic.specs.SqrtStages.{Remainder, Digits, Significand, Bounded, WholeRoot};
 use crate::double::finite;
 use crate::outcome::Outcome;
@@ -174,7 +174,7 @@ pub struct SqrtAnswer {
 }
 
 pub fn checked_sqrt(x: f64) -> SqrtAnswer
-    ensures { λ r. ⌜ r ≡ checkedSqrt x ⌝ }
+    ensures { λ r. ⌜ r ≡ checked-sqrt x ⌝ }
 {
     if !finite(x) {
         return SqrtAnswer {

@@ -1,6 +1,6 @@
 use borrow.Author.Needs.{needs}
 use mathlib.Core.Path.{sym}
-use Rattle.arithmetic.specs.Sqrt.{checkedSqrt}
+use Rattle.arithmetic.specs.Sqrt.{checked-sqrt}
 use Rattle.arithmetic.proofs.sqrt.checked_sqrt.Statement.{statement}
 use Rattle.arithmetic.proofs.sqrt.checked_sqrt.Tie as tie
 
@@ -8,18 +8,18 @@ finite-requires : tie.Need-finite-requires
 finite-requires c κs = search needs
 
 returns : tie.Need-returns
-unfolding checkedSqrt
+unfolding checked-sqrt
 returns c = rw (sym (c .before .finite .ensures), c .if1 .taken)
 
 returns-2 : tie.Need-returns-2
-unfolding checkedSqrt
+unfolding checked-sqrt
 returns-2 c = rw (sym (c .before .before .finite .ensures), c .before .if1 .left, c .if2 .taken)
 
 sqrt-requires : tie.Need-sqrt-requires
 sqrt-requires c κs = search needs
 
 returns-3 : tie.Need-returns-3
-unfolding checkedSqrt
+unfolding checked-sqrt
 returns-3 c = rw (sym (c .before .before .before .finite .ensures), c .before .before .if1 .left, c .before .if2 .left, c .sqrt .ensures)
 
 pub checked-sqrt-spec : {M : Type 1} → statement M
