@@ -31,11 +31,11 @@ firstFrom-is bad a (suc k) = go (bad a) refl (firstFrom-is bad (suc a) k)
     go : (b : Bool) → bad a ≡ b → First bad (suc a) (suc a + k) (firstFrom bad (suc a) k) → First bad a (a + suc k) (cond b a (firstFrom bad (suc a) k))
     go true e F = record { from = omega arith; most = omega arith; good = λ i p q. absurd (omega arith); here = λ h. e }
     go false e F = record {
-        from = omega (arith, F .from);
-        most = omega (arith, F .most);
-        good = λ i p q. elim (eq-or-lt-of-le p) [ inl z ↦ rw (← z) e | inr l ↦ F .good i l q ];
-        here = λ h. F .here (omega arith)
-      }
+      from = omega (arith, F .from);
+      most = omega (arith, F .most);
+      good = λ i p q. elim (eq-or-lt-of-le p) [ inl z ↦ rw (← z) e | inr l ↦ F .good i l q ];
+      here = λ h. F .here (omega arith);
+    }
 
 pub first-is : (bad : ℕ → Bool) (n : ℕ) → First bad 0 n (first bad n)
 first-is bad n = let e : 0 + n ≡ n = omega arith in rw e at (firstFrom-is bad 0 n)
@@ -43,9 +43,9 @@ first-is bad n = let e : 0 + n ≡ n = omega arith in rw e at (firstFrom-is bad 
 -- there is only one
 first-unique : (bad : ℕ → Bool) (n r s : ℕ) → First bad 0 n r → First bad 0 n s → r ≤ s
 first-unique bad n r s R S = elim (decLe r s) [
-    | yes p ↦ p
-    | no q ↦ absurd (false≢true (sym (R .good s (omega arith) (omega arith)) ∙ S .here (omega (arith, R .most))))
-  ]
+  | yes p ↦ p
+  | no q ↦ absurd (false≢true (sym (R .good s (omega arith) (omega arith)) ∙ S .here (omega (arith, R .most))))
+]
 
 pub first-found : (bad : ℕ → Bool) (n i : ℕ) → i < n → bad i ≡ true → ((k : ℕ) → k < i → bad k ≡ false) → first bad n ≡ i
 first-found bad n i l b g =

@@ -1,0 +1,7 @@
+pub mod Inverse
+pub mod Picks
+pub mod SeRuns
+pub mod Ends
+pub mod SeTheorem
+pub mod GmwRuns
+pub mod Theorem

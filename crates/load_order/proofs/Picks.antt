@@ -1,0 +1,111 @@
+-- The pivot searches of the two runs: tied alike, and where untied they pick corresponding positions. Permutations that pivots keep, and marks.
+use mathlib.Core.Path.{_≡_, refl, sym, ap, ap₂, _∙_, subst}
+use mathlib.Core.List.{List}
+use mathlib.Core.Bool.{Bool, true, false, cond}
+use Prim.Native.Nat.{ℕ, _+_, _-_, _≤_, _<_}
+use native.Mathlib.Omega.{arith}
+use lib.ListN.{length, getD}
+use lib.Ieee.{Float, nan, isNan}
+use Rattle.arithmetic.specs.Double.{abs}
+use Rattle.matrix.specs.Matrix.{at}
+use Rattle.matrix.specs.Table.{table, length-table, getD-table}
+use Rattle.matrix.specs.Search.{key, largest}
+use Rattle.matrix.proofs.SwapLaws.{transpose, transpose-lt, transpose-twice}
+use Rattle.matrix.proofs.Bijection.{Bijection, Fixes, bijection-from, counted, bijection-counted, Along}
+use Rattle.matrix.proofs.SearchLaws.{candidate, Numbers, largest-top, tied-along, index-along}
+use Rattle.modcholesky.specs.Marks.{mark}
+use Rattle.modcholesky.specs.Statements.{diagonalFrom, pivotList}
+use Rattle.modcholesky.specs.declared.decomposition.Mark.{Mark}
+use Rattle.modcholesky.specs.declared.decomposition.Mark.the-variants.{Never, Step}
+use Rattle.modcholesky.proofs.Magnitudes.{abs-number}
+use Rattle.modcholesky.proofs.Moved.{Moved, getD-pivot}
+use Rattle.modcholesky.proofs.Reordered.{Order}
+
+-- ---- marks
+pub mark-set : (m : Mark) (b : Bool) (j : ℕ) → m ≡ Never → b ≡ true → mark m b j ≡ Step j
+mark-set m b j e f = rw (e, f)
+
+pub mark-clear : (m : Mark) (b : Bool) (j : ℕ) → m ≡ Never → b ≡ false → mark m b j ≡ Never
+mark-clear m b j e f = rw (e, f)
+
+pub mark-keeps : (m : Mark) (b : Bool) (j t : ℕ) → m ≡ Step t → mark m b j ≡ Step t
+mark-keeps m b j t e = rw e
+
+pub clash : {A : Type 0} (m : Mark) (t : ℕ) → m ≡ Never → m ≡ Step t → A
+clash m t p q = absurd (let z : _≡_ {A = ℕ} 0 1 = cc in omega arith)
+
+-- ---- searches of the diagonal from j on
+module _ (n j : ℕ) (m : List Float) where
+  diagonal-length : length (diagonalFrom n m j) ≡ n - j
+  unfolding diagonalFrom
+  diagonal-length = length-table (n - j) (λ i. at n m (j + i) (j + i))
+
+  diagonal-candidate : (magnitude : Bool) (i : ℕ) → i < n - j → candidate magnitude (diagonalFrom n m j) i ≡ key magnitude (at n m (j + i) (j + i))
+  unfolding diagonalFrom
+  diagonal-candidate magnitude i q = ap (key magnitude) (getD-table (n - j) (λ k. at n m (j + k) (j + k)) i nan q)
+
+  -- the pivot is a position from j on
+  pub pick-below : (magnitude : Bool) → j < n → j + largest magnitude (diagonalFrom n m j) .index < n
+  pick-below magnitude pj = omega (arith, diagonal-length, largest-top magnitude (diagonalFrom n m j) (omega (arith, diagonal-length)) .below)
+
+key-number : (magnitude : Bool) (x : Float) → isNan x ≡ false → isNan (key magnitude x) ≡ false
+unfolding key
+key-number true x h = abs-number x h
+key-number false x h = h
+
+module _ (magnitude : Bool) (n j : ℕ) (σ τ : ℕ → ℕ) (A B : List Float) (pj : j < n) (P : Bijection 0 n σ τ) (f : Fixes n j σ) (M : Moved n σ A B)
+    (nn : (i : ℕ) → j ≤ i → i < n → isNan (at n A i i) ≡ false) where
+  from : Bijection j n σ τ
+  from = bijection-from n j σ τ P f
+
+  relative : Bijection 0 (n - j) (counted j σ) (counted j τ)
+  relative = bijection-counted n j σ τ from
+
+  along : Along 0 (n - j) (counted j σ) (candidate magnitude (diagonalFrom n A j)) (candidate magnitude (diagonalFrom n B j))
+  along i p q =
+      let l : j ≤ σ (j + i) = from .to-low (j + i) (omega arith) (omega arith) in
+      let h : counted j σ i < n - j = relative .to-high i p q in
+      let e : j + counted j σ i ≡ σ (j + i) = omega arith in
+      diagonal-candidate n j B magnitude i q
+      ∙ ap (key magnitude) (M .moved (j + i) (j + i) (omega arith) (omega arith) ∙ ap (λ (x : ℕ). at n A x x) (sym e))
+      ∙ sym (diagonal-candidate n j A magnitude (counted j σ i) h)
+
+  numbers : Numbers (candidate magnitude (diagonalFrom n A j)) (n - j)
+  numbers i q = rw (diagonal-candidate n j A magnitude i q) (key-number magnitude (at n A (j + i) (j + i)) (nn (j + i) (omega arith) (omega arith)))
+
+  pub picks-tied : largest magnitude (diagonalFrom n A j) .tied ≡ largest magnitude (diagonalFrom n B j) .tied
+  picks-tied = tied-along magnitude (n - j) (counted j σ) (counted j τ) (diagonalFrom n A j) (diagonalFrom n B j) (diagonal-length n j A) (diagonal-length n j B) (omega arith) relative along numbers
+
+  pub picks-correspond : largest magnitude (diagonalFrom n A j) .tied ≡ false → σ (j + largest magnitude (diagonalFrom n B j) .index) ≡ j + largest magnitude (diagonalFrom n A j) .index
+  picks-correspond e =
+      let b : ℕ = largest magnitude (diagonalFrom n B j) .index in
+      let h : j + b < n = pick-below n j B magnitude pj in
+      let l : j ≤ σ (j + b) = from .to-low (j + b) (omega arith) h in
+      let k : counted j σ b ≡ largest magnitude (diagonalFrom n A j) .index =
+      index-along magnitude (n - j) (counted j σ) (counted j τ) (diagonalFrom n A j) (diagonalFrom n B j) (diagonal-length n j A) (diagonal-length n j B) (omega arith) relative along numbers e in
+      omega arith
+
+-- ---- a pivot keeps p a permutation
+pub pivot-permutes : (n j k : ℕ) (p : List ℕ) (q : ℕ → ℕ) → length p ≡ n → j + k < n → Order n p q → Order n (pivotList 0 j k p) (λ r. transpose j (j + k) (q r))
+pivot-permutes n j k p q h pk O = record {
+  to-low = λ i u w. omega arith;
+  to-high = λ i u w. rw (getD-pivot 0 j k p i (omega arith)) (O .to-high (transpose j (j + k) i) (omega arith) (transpose-lt n j (j + k) i (omega arith) pk w));
+  from-low = λ i u w. omega arith;
+  from-high = λ i u w. transpose-lt n j (j + k) (q i) (omega arith) pk (O .from-high i u w);
+  to-from = λ i u w. getD-pivot 0 j k p (transpose j (j + k) (q i)) (omega arith) ∙ ap (λ (x : ℕ). getD p x 0) (transpose-twice j (j + k) (q i)) ∙ O .to-from i u w;
+  from-to = λ i u w.
+      ap (λ (x : ℕ). transpose j (j + k) (q x)) (getD-pivot 0 j k p i (omega arith))
+      ∙ ap (transpose j (j + k)) (O .from-to (transpose j (j + k) i) (omega arith) (transpose-lt n j (j + k) i (omega arith) pk w))
+      ∙ transpose-twice j (j + k) i;
+}
+
+-- 0 to n - 1 in order
+pub identity-permutes : (n : ℕ) → Order n (table n (λ i. i)) (λ i. i)
+identity-permutes n = record {
+  to-low = λ i u w. omega arith;
+  to-high = λ i u w. rw (getD-table n (λ k. k) i 0 w) w;
+  from-low = λ i u w. omega arith;
+  from-high = λ i u w. w;
+  to-from = λ i u w. getD-table n (λ k. k) i 0 w;
+  from-to = λ i u w. getD-table n (λ k. k) i 0 w;
+}

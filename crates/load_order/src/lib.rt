@@ -1,0 +1,1 @@
+// Theorems only: document 01's section 'Load order'. The statement is in specs/LoadOrder.antt.

@@ -1,0 +1,89 @@
+use borrow.Author.Needs.{needs}
+use borrow.Author.Tests.{eq-eqb, ne-eqb}
+use mathlib.Core.Bool.{true, false, not, false≢true}
+use mathlib.Core.Path.{_≡_, refl, sym, _∙_}
+use Prim.Native.Nat.{_-_, _≤_}
+use lib.Dec.{T}
+use lib.Ieee.{Float, nan, inf, fin, binary64, toBits, isNan}
+use lib.Ieee.Scale.{finite}
+use Rattle.arithmetic.specs.First.{firstFrom}
+use Rattle.matrix.specs.Checks.{sameBits, firstMismatch}
+use Rattle.matrix.proofs.CheckLaws.{mismatch, search-found, search-turn, search-end}
+use Rattle.matrix.proofs.checks.first_mismatch.Statement.{statement}
+use Rattle.matrix.proofs.checks.first_mismatch.Tie as tie
+
+-- what is finite is no NaN
+number : (x : Float) → finite x ≡ true → T (not (isNan x))
+unfolding isNan
+number nan h = absurd (false≢true h)
+number (inf s) h = tt
+number (fin s m e) h = tt
+
+differ : {x y r s : Float} → r ≡ x → s ≡ y → (toBits binary64 r ≡ toBits binary64 s → ⊥) → not (sameBits x y) ≡ true
+differ p q h = rw (← p, ← q, ne-eqb _ _ h)
+
+agree : {x y r s : Float} → r ≡ x → s ≡ y → toBits binary64 r ≡ toBits binary64 s → not (sameBits x y) ≡ false
+agree p q h = rw (← p, ← q, eq-eqb _ _ h)
+
+abbrev Inv-loop : tie.InvT-loop
+Inv-loop m n i start j₀ j = (start ≤ j) × (j ≤ n) × (firstFrom (mismatch n m i) start (n - start) ≡ firstFrom (mismatch n m i) j (n - j))
+
+abbrev μ-loop : tie.MeasureT-loop
+μ-loop m n i start j₀ j = n - j
+
+add-start : tie.Need-add-start Inv-loop μ-loop
+add-start c = search needs
+
+loop-holds : tie.Need-loop-holds Inv-loop μ-loop
+loop-holds c = (search needs, search needs, refl)
+
+get-requires : tie.Need-get-requires Inv-loop μ-loop
+get-requires c κs = search needs
+
+float-to-bits-if1 : tie.Need-float-to-bits-if1 Inv-loop μ-loop
+float-to-bits-if1 c = rw (c .get .ensures) (number _ (c .before .before .before .before .pre .1 .0 _ _ (search needs) (search needs)))
+
+get-requires-2 : tie.Need-get-requires-2 Inv-loop μ-loop
+get-requires-2 c κs = search needs
+
+float-to-bits-if1-2 : tie.Need-float-to-bits-if1-2 Inv-loop μ-loop
+float-to-bits-if1-2 c = rw (c .get2 .ensures) (number _ (c .before .before .before .before .before .pre .1 .0 _ _ (search needs) (search needs)))
+
+returns : tie.Need-returns Inv-loop μ-loop
+unfolding firstMismatch
+returns c =
+    let t = c .before .before .before in
+    sym (t .before .loop .inv .2 ∙ search-found _ _ _ (t .loop-test .taken) (differ (c .before .before .get .ensures) (c .before .get2 .ensures) (c .if1 .taken)))
+
+add-j : tie.Need-add-j Inv-loop μ-loop
+add-j c = search needs
+
+loop-less : tie.Need-loop-less Inv-loop μ-loop
+loop-less c = search needs
+
+loop-again : tie.Need-loop-again Inv-loop μ-loop
+loop-again c =
+    let t = c .before .before .before in
+    (search needs, search needs, t .before .loop .inv .2 ∙ search-turn _ _ _ (t .loop-test .taken) (agree (c .before .before .get .ensures) (c .before .get2 .ensures) (c .if1 .left)))
+
+returns-2 : tie.Need-returns-2 Inv-loop μ-loop
+unfolding firstMismatch
+returns-2 c = let l = c .before .loop in sym (l .inv .2 ∙ search-end _ _ _ (l .inv .1) (c .loop-test .left))
+
+pub first-mismatch-spec : {M : Type 1} → statement M
+first-mismatch-spec =
+    tie.close
+    (tie.spec
+    Inv-loop
+    μ-loop
+    add-start
+    loop-holds
+    get-requires
+    float-to-bits-if1
+    get-requires-2
+    float-to-bits-if1-2
+    returns
+    add-j
+    loop-less
+    loop-again
+    returns-2)

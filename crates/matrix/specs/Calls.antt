@@ -1,0 +1,105 @@
+-- What each call answers, on accepted and refused operands: its outcome, what it hands back, and every buffer it was lent.
+use mathlib.Core.List.{List, [], _∷_}
+use mathlib.Core.Bool.{Bool, cond, not, _&&_}
+use Prim.Native.Nat.{ℕ, _*_}
+use lib.ListN.{length}
+use lib.Dec.{ltb}
+use lib.Ieee.{Float}
+use lib.Ieee.Scale.{finite}
+use Rattle.arithmetic.specs.Double.{plus-zero}
+use Rattle.arithmetic.specs.Outcome.{complete, refuse, _then_}
+use Rattle.arithmetic.specs.declared.outcome.Outcome.{Outcome}
+use Rattle.arithmetic.specs.declared.outcome.Outcome.the-variants.{StoredNotFinite}
+use Rattle.matrix.specs.Matrix.{zeros}
+use Rattle.matrix.specs.Swap.{swap-rows, swap-columns}
+use Rattle.matrix.specs.Search.{largest}
+use Rattle.matrix.specs.Eigenvalues.{entry, eigenvalues-2x2}
+use Rattle.matrix.specs.Plain.{index-to-permutation-mat, diag-mat-from-arr}
+use Rattle.matrix.specs.Circles.{written, centre, radius, firstOverflow}
+use Rattle.matrix.specs.Checks.{check-size, check-some, check-matrix, check-buffer, check-index, check-indices, check-finite}
+use Rattle.matrix.specs.declared.utils.Eigen.{Eigen}
+use Rattle.matrix.specs.declared.utils.EigenAnswer.{EigenAnswer}
+use Rattle.matrix.specs.declared.utils.SearchAnswer.{SearchAnswer}
+
+-- a call that is lent one matrix: untouched where the call is refused
+pub record MatrixCall : Type 0 where
+  pub outcome : Outcome
+  pub mat : List Float
+
+abbrev pub matrixCall : Outcome → List Float → List Float → MatrixCall
+matrixCall outcome new old = record { outcome = outcome; mat = cond (complete outcome) new old }
+
+-- ---- swaps: 3, 4, 6
+unfoldable pub swap-checks : ℕ → ℕ → ℕ → ℕ → Outcome
+swap-checks n len idx1 idx2 = check-size n then check-matrix n len then check-index n 0 idx1 then check-index n 1 idx2
+
+abbrev pub checked-swap-rows : ℕ → List Float → ℕ → ℕ → MatrixCall
+checked-swap-rows n mat idx1 idx2 = matrixCall (swap-checks n (length mat) idx1 idx2) (swap-rows n mat idx1 idx2) mat
+
+abbrev pub checked-swap-columns : ℕ → List Float → ℕ → ℕ → MatrixCall
+checked-swap-columns n mat idx1 idx2 = matrixCall (swap-checks n (length mat) idx1 idx2) (swap-columns n mat idx1 idx2) mat
+
+-- ---- searches: 3, 7
+unfoldable pub search-checks : List Float → Outcome
+search-checks c = check-some c then check-finite 1 c
+
+abbrev pub checked-search : Bool → List Float → SearchAnswer
+checked-search magnitude c = record { outcome = search-checks c; index = cond (complete (search-checks c)) (largest magnitude c .index) 0 }
+
+-- ---- eigenvalues: 7, 9
+abbrev pub blockList : List (List Float) → List Float
+blockList mat = entry mat 0 0 ∷ entry mat 0 1 ∷ entry mat 1 0 ∷ entry mat 1 1 ∷ []
+
+abbrev pub bothFinite : Eigen → Bool
+bothFinite e = finite (e .hi) && finite (e .lo)
+
+unfoldable pub eigen-checks : List (List Float) → Outcome
+eigen-checks mat = check-finite 2 (blockList mat) then refuse (not (bothFinite (eigenvalues-2x2 mat))) (StoredNotFinite 0)
+
+abbrev pub noEigen : Eigen
+noEigen = record { hi = plus-zero; lo = plus-zero }
+
+unfoldable pub checked-eigenvalues-2x2 : List (List Float) → EigenAnswer
+unfolding eigen-checks
+checked-eigenvalues-2x2 mat = record { outcome = eigen-checks mat; eigen = cond (complete (eigen-checks mat)) (eigenvalues-2x2 mat) noEigen }
+
+-- ---- permutation matrix: 3, 5, 6
+unfoldable pub permutation-checks : List ℕ → ℕ → Outcome
+permutation-checks idxs len = check-size (length idxs) then check-buffer (length idxs * length idxs) len then check-indices (length idxs) idxs
+
+abbrev pub checked-index-to-permutation-mat : List ℕ → List Float → MatrixCall
+checked-index-to-permutation-mat idxs mat = matrixCall (permutation-checks idxs (length mat)) (index-to-permutation-mat idxs) mat
+
+-- ---- diagonal matrix: 3, 5, 7
+unfoldable pub diagonal-checks : List Float → ℕ → Outcome
+diagonal-checks arr len = check-size (length arr) then check-buffer (length arr * length arr) len then check-finite 1 arr
+
+abbrev pub checked-diag-mat-from-arr : List Float → List Float → MatrixCall
+checked-diag-mat-from-arr arr mat = matrixCall (diagonal-checks arr (length mat)) (diag-mat-from-arr arr) mat
+
+-- ---- circles: 3, 4, 5, 7, and 9 at the first row with an infinite sum, both lists then +0.0
+pub record CirclesCall : Type 0 where
+  pub outcome : Outcome
+  pub centres : List Float
+  pub radii : List Float
+
+abbrev pub circlesCall : Outcome → List Float → List Float → CirclesCall
+circlesCall outcome centres radii = record { outcome = outcome; centres = centres; radii = radii }
+
+unfoldable pub circle-checks : ℕ → List Float → ℕ → ℕ → Outcome
+circle-checks n mat centres radii = check-size n then check-matrix n (length mat) then check-buffer n centres then check-buffer n radii then check-finite n mat
+
+abbrev pub overflow : ℕ → List Float → Outcome
+overflow n mat = refuse (ltb (firstOverflow n mat) n) (StoredNotFinite (firstOverflow n mat))
+
+abbrev pub gershgorin-circles : ℕ → List Float → List Float → List Float → CirclesCall
+gershgorin-circles n mat centres radii =
+    cond (complete (overflow n mat))
+    (circlesCall (overflow n mat) (written (centre n mat) n centres) (written (radius n mat) n radii))
+    (circlesCall (overflow n mat) (zeros n) (zeros n))
+
+abbrev pub checked-gershgorin-circles : ℕ → List Float → List Float → List Float → CirclesCall
+checked-gershgorin-circles n mat centres radii =
+    cond (complete (circle-checks n mat (length centres) (length radii)))
+    (gershgorin-circles n mat centres radii)
+    (circlesCall (circle-checks n mat (length centres) (length radii)) centres radii)

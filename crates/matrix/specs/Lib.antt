@@ -1,0 +1,9 @@
+pub mod Matrix
+pub mod Table
+pub mod Swap
+pub mod Search
+pub mod Eigenvalues
+pub mod Plain
+pub mod Circles
+pub mod Checks
+pub mod Calls

@@ -1,0 +1,127 @@
+// The checks that calls share, in the order of their refusals' numbers. Each answers Complete or its refusal.
+ghost use mathlib.Core.Path.{_≡_};
+ghost use Prim.Native.Nat.{ℕ, _+_, _*_, _/_, _%_, _<_, _≤_};
+ghost use lib.ListN.{length};
+ghost use Rattle.matrix.specs.Matrix.{Square};
+ghost use Rattle.matrix.specs.Checks.{check-size, check-some, check-matrix, check-buffer, check-index, check-indices, check-finite, check-symmetric, firstNotFinite, firstMismatch, AllFinite};
+use crate::entries::get;
+use arithmetic::double::finite;
+use arithmetic::outcome::Outcome;
+
+pub fn check_size(n: usize) -> Outcome
+    ensures { λ r. ⌜ r ≡ check-size n ⌝ }
+{
+    if n == 0 {
+        return Outcome::SizeOutOfRange;
+    }
+    if 48 < n {
+        return Outcome::SizeOutOfRange;
+    }
+    Outcome::Complete
+}
+
+pub fn check_some(c: &[f64]) -> Outcome
+    ensures { λ r. ⌜ r ≡ check-some (now (c .entry)) ⌝ }
+{
+    if c.len() == 0 {
+        return Outcome::SizeOutOfRange;
+    }
+    Outcome::Complete
+}
+
+pub fn check_matrix(n: usize, len: usize) -> Outcome
+    requires { ⌜ n ≤ 48 ⌝ }
+    ensures { λ r. ⌜ r ≡ check-matrix n len ⌝ }
+{
+    if len != n * n {
+        return Outcome::MatrixLength;
+    }
+    Outcome::Complete
+}
+
+pub fn check_buffer(wanted: usize, len: usize) -> Outcome
+    ensures { λ r. ⌜ r ≡ check-buffer wanted len ⌝ }
+{
+    if len != wanted {
+        return Outcome::BufferLength;
+    }
+    Outcome::Complete
+}
+
+pub fn check_index(n: usize, position: usize, index: usize) -> Outcome
+    ensures { λ r. ⌜ r ≡ check-index n position index ⌝ }
+{
+    if n <= index {
+        return Outcome::IndexOutOfRange { position };
+    }
+    Outcome::Complete
+}
+
+pub fn check_indices(n: usize, idxs: &[usize]) -> Outcome
+    ensures { λ r. ⌜ r ≡ check-indices n (now (idxs .entry)) ⌝ }
+{
+    let len = idxs.len();
+    for k in 0..len {
+        if n <= idxs[k] {
+            return Outcome::IndexOutOfRange { position: k };
+        }
+    }
+    Outcome::Complete
+}
+
+// The position of the first entry that is not finite, or the length.
+fn first_not_finite(m: &[f64]) -> usize
+    ensures { λ r. ⌜ r ≡ firstNotFinite (now (m .entry)) ⌝ }
+{
+    let len = m.len();
+    for k in 0..len {
+        if !finite(m[k]) {
+            return k;
+        }
+    }
+    len
+}
+
+pub fn check_finite(n: usize, m: &[f64]) -> Outcome
+    requires { ⌜ 0 < n ⌝ }
+    ensures { λ r. ⌜ r ≡ check-finite n (now (m .entry)) ⌝ }
+{
+    let k = first_not_finite(m);
+    if k < m.len() {
+        return Outcome::NotFinite {
+            row: k / n,
+            column: k % n,
+        };
+    }
+    Outcome::Complete
+}
+
+// The first column after i at which row i has other bits than column i, or n.
+fn first_mismatch(m: &[f64], n: usize, i: usize) -> usize
+    requires { ⌜ Square n (now m) ⌝ }
+    requires { ⌜ AllFinite n (now m) ⌝ }
+    requires { ⌜ i < n ⌝ }
+    ensures { λ r. ⌜ r ≡ firstMismatch n (now (m .entry)) i ⌝ }
+{
+    let start = i + 1;
+    for j in start..n {
+        if f64::to_bits(get(m, n, i, j)) != f64::to_bits(get(m, n, j, i)) {
+            return j;
+        }
+    }
+    n
+}
+
+pub fn check_symmetric(n: usize, m: &[f64]) -> Outcome
+    requires { ⌜ Square n (now m) ⌝ }
+    requires { ⌜ AllFinite n (now m) ⌝ }
+    ensures { λ r. ⌜ r ≡ check-symmetric n (now (m .entry)) ⌝ }
+{
+    for i in 0..n {
+        let j = first_mismatch(m, n, i);
+        if j < n {
+            return Outcome::Unsymmetric { row: i, column: j };
+        }
+    }
+    Outcome::Complete
+}

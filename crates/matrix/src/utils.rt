@@ -1,0 +1,352 @@
+// src/utils.rs: swaps, searches, eigenvalues, permutation and diagonal matrices.
+ghost use mathlib.Core.Path.{_≡_};
+ghost use mathlib.Core.Bool.{Bool, cond, _&&_};
+ghost use Prim.Native.Nat.{_+_, _*_, _<_, _≤_};
+ghost use lib.ListN.{length};
+ghost use lib.Ieee.{nan, eq};
+ghost use Rattle.matrix.specs.Matrix.{Square, zeros};
+ghost use Rattle.matrix.specs.Swap.{swap, swap-rows, swap-columns};
+ghost use Rattle.matrix.specs.Search.{key, better, bestOf, countEqual, largest};
+ghost use Rattle.matrix.specs.Eigenvalues.{ordered, eigenvaluesOf, eigenvalues-2x2};
+ghost use Rattle.matrix.specs.Plain.{AllBelow, index-to-permutation-mat, diag-mat-from-arr};
+ghost use Rattle.matrix.specs.Calls.{matrixCall, swap-checks, checked-swap-rows, checked-swap-columns, search-checks, checked-search, eigen-checks, checked-eigenvalues-2x2, permutation-checks, checked-index-to-permutation-mat, diagonal-checks, checked-diag-mat-from-arr};
+use crate::checks;
+use crate::entries::cell;
+use crate::entries::clear;
+use crate::entries::put;
+use arithmetic::double::abs;
+use arithmetic::double::finite;
+use arithmetic::outcome::Outcome;
+use arithmetic::sqrt::sqrt;
+
+// ---- swaps
+
+pub fn swap(l: &mut [f64], x: usize, y: usize)
+    requires { ⌜ (x < length (now l)) × (y < length (now l)) ⌝ }
+    ensures { λ _. ⌜ now (l .exit) ≡ swap nan (now (l .entry)) x y ⌝ }
+{
+    let t = l[x];
+    l[x] = l[y];
+    l[y] = t;
+}
+
+pub fn swap_rows(mat: &mut [f64], n: usize, idx1: usize, idx2: usize)
+    requires { ⌜ Square n (now mat) ⌝ }
+    requires { ⌜ (idx1 < n) × (idx2 < n) ⌝ }
+    ensures { λ _. ⌜ now (mat .exit) ≡ swap-rows n (now (mat .entry)) idx1 idx2 ⌝ }
+{
+    for i in 0..n {
+        swap(mat, cell(n, idx1, i), cell(n, idx2, i));
+    }
+}
+
+pub fn swap_columns(mat: &mut [f64], n: usize, idx1: usize, idx2: usize)
+    requires { ⌜ Square n (now mat) ⌝ }
+    requires { ⌜ (idx1 < n) × (idx2 < n) ⌝ }
+    ensures { λ _. ⌜ now (mat .exit) ≡ swap-columns n (now (mat .entry)) idx1 idx2 ⌝ }
+{
+    for i in 0..n {
+        swap(mat, cell(n, i, idx1), cell(n, i, idx2));
+    }
+}
+
+fn swap_checks(n: usize, len: usize, idx1: usize, idx2: usize) -> Outcome
+    ensures { λ r. ⌜ r ≡ swap-checks n len idx1 idx2 ⌝ }
+{
+    let size = checks::check_size(n);
+    if !size.complete() {
+        return size;
+    }
+    let matrix = checks::check_matrix(n, len);
+    if !matrix.complete() {
+        return matrix;
+    }
+    let first = checks::check_index(n, 0, idx1);
+    if !first.complete() {
+        return first;
+    }
+    checks::check_index(n, 1, idx2)
+}
+
+pub fn checked_swap_rows(mat: &mut [f64], n: usize, idx1: usize, idx2: usize) -> Outcome
+    ensures { λ r. ⌜ record { outcome = r; mat = now (mat .exit) } ≡ checked-swap-rows n (now (mat .entry)) idx1 idx2 ⌝ }
+{
+    let outcome = swap_checks(n, mat.len(), idx1, idx2);
+    if outcome.complete() {
+        swap_rows(mat, n, idx1, idx2);
+    }
+    outcome
+}
+
+pub fn checked_swap_columns(mat: &mut [f64], n: usize, idx1: usize, idx2: usize) -> Outcome
+    ensures { λ r. ⌜ record { outcome = r; mat = now (mat .exit) } ≡ checked-swap-columns n (now (mat .entry)) idx1 idx2 ⌝ }
+{
+    let outcome = swap_checks(n, mat.len(), idx1, idx2);
+    if outcome.complete() {
+        swap_columns(mat, n, idx1, idx2);
+    }
+    outcome
+}
+
+// ---- searches
+
+// The largest so far, and where it was first.
+pub struct Best {
+    pub max: f64,
+    pub index: usize,
+}
+
+// Where the largest is first, and whether it stands at two or more candidates.
+pub struct Found {
+    pub index: usize,
+    pub tied: bool,
+}
+
+fn key(magnitude: bool, x: f64) -> f64
+    ensures { λ r. ⌜ r ≡ key magnitude x ⌝ }
+{
+    if magnitude { abs(x) } else { x }
+}
+
+fn better(s: Best, x: f64, i: usize) -> Best
+    ensures { λ r. ⌜ r ≡ better s x i ⌝ }
+{
+    if x > s.max {
+        Best { max: x, index: i }
+    } else {
+        s
+    }
+}
+
+fn best_of(magnitude: bool, c: &[f64]) -> Best
+    requires { ⌜ 0 < length (now c) ⌝ }
+    ensures { λ r. ⌜ r ≡ bestOf magnitude (now (c .entry)) ⌝ }
+{
+    let mut s = Best {
+        max: key(magnitude, c[0]),
+        index: 0,
+    };
+    let n = c.len();
+    for i in 0..n {
+        s = better(s, key(magnitude, c[i]), i);
+    }
+    s
+}
+
+// One more where x and y are equal.
+fn tally(count: usize, x: f64, y: f64) -> usize
+    requires { ⌜ count < 0x8000_0000_0000_0000 ⌝ }
+    ensures { λ r. ⌜ (r ≡ cond (eq x y) (count + 1) count) × (r ≤ count + 1) ⌝ }
+{
+    if x == y { count + 1 } else { count }
+}
+
+fn count_equal(magnitude: bool, c: &[f64], x: f64) -> usize
+    ensures { λ r. ⌜ r ≡ countEqual magnitude (now (c .entry)) x ⌝ }
+{
+    let mut count: usize = 0;
+    let n = c.len();
+    for i in 0..n {
+        count = tally(count, x, key(magnitude, c[i]));
+    }
+    count
+}
+
+// The search of every method: by magnitude in GMW81, by value in SE90 and SE99.
+pub fn largest(magnitude: bool, c: &[f64]) -> Found
+    requires { ⌜ 0 < length (now c) ⌝ }
+    ensures { λ r. ⌜ r ≡ largest magnitude (now (c .entry)) ⌝ }
+{
+    let b = best_of(magnitude, c);
+    let count = count_equal(magnitude, c, b.max);
+    Found {
+        index: b.index,
+        tied: 1 < count,
+    }
+}
+
+// An index and how the call ended. Beside a refusal the index is 0.
+pub struct SearchAnswer {
+    pub outcome: Outcome,
+    pub index: usize,
+}
+
+fn search_checks(c: &[f64]) -> Outcome
+    ensures { λ r. ⌜ r ≡ search-checks (now (c .entry)) ⌝ }
+{
+    let some = checks::check_some(c);
+    if !some.complete() {
+        return some;
+    }
+    checks::check_finite(1, c)
+}
+
+fn checked_search(magnitude: bool, c: &[f64]) -> SearchAnswer
+    ensures { λ r. ⌜ r ≡ checked-search magnitude (now (c .entry)) ⌝ }
+{
+    let outcome = search_checks(c);
+    if outcome.complete() {
+        let f = largest(magnitude, c);
+        return SearchAnswer {
+            outcome,
+            index: f.index,
+        };
+    }
+    SearchAnswer { outcome, index: 0 }
+}
+
+pub fn checked_index_of_largest(c: &[f64]) -> SearchAnswer
+    ensures { λ r. ⌜ r ≡ checked-search Bool.false (now (c .entry)) ⌝ }
+{
+    checked_search(false, c)
+}
+
+pub fn checked_index_of_largest_abs(c: &[f64]) -> SearchAnswer
+    ensures { λ r. ⌜ r ≡ checked-search Bool.true (now (c .entry)) ⌝ }
+{
+    checked_search(true, c)
+}
+
+// ---- eigenvalues
+
+// The larger and the smaller eigenvalue.
+pub struct Eigen {
+    pub hi: f64,
+    pub lo: f64,
+}
+
+fn ordered(l1: f64, l2: f64) -> Eigen
+    ensures { λ r. ⌜ r ≡ ordered l1 l2 ⌝ }
+{
+    if l1 > l2 {
+        Eigen { hi: l1, lo: l2 }
+    } else {
+        Eigen { hi: l2, lo: l1 }
+    }
+}
+
+pub fn eigenvalues_2x2(mat: [[f64; 2]; 2]) -> Eigen
+    ensures { λ r. ⌜ r ≡ eigenvalues-2x2 mat ⌝ }
+{
+    let a = mat[0][0];
+    let b = mat[0][1];
+    let c = mat[1][0];
+    let d = mat[1][1];
+    let h = -(a + d) / 2.0;
+    let tmp = sqrt(h * h - a * d + b * c);
+    let l1 = (a + d) / 2.0 + tmp;
+    let l2 = (a + d) / 2.0 - tmp;
+    ordered(l1, l2)
+}
+
+// Eigenvalues and how the call ended. Beside a refusal both are zero.
+pub struct EigenAnswer {
+    pub outcome: Outcome,
+    pub eigen: Eigen,
+}
+
+fn eigen_checks(mat: [[f64; 2]; 2], e: Eigen) -> Outcome
+    requires { ⌜ e ≡ eigenvalues-2x2 mat ⌝ }
+    ensures { λ r. ⌜ r ≡ eigen-checks mat ⌝ }
+{
+    let entries = [mat[0][0], mat[0][1], mat[1][0], mat[1][1]];
+    let operands = checks::check_finite(2, &entries);
+    if !operands.complete() {
+        return operands;
+    }
+    if finite(e.hi) {
+        if finite(e.lo) {
+            return Outcome::Complete;
+        }
+    }
+    Outcome::StoredNotFinite { step: 0 }
+}
+
+pub fn checked_eigenvalues_2x2(mat: [[f64; 2]; 2]) -> EigenAnswer
+    ensures { λ r. ⌜ r ≡ checked-eigenvalues-2x2 mat ⌝ }
+{
+    let eigen = eigenvalues_2x2(mat);
+    let outcome = eigen_checks(mat, eigen);
+    if outcome.complete() {
+        return EigenAnswer { outcome, eigen };
+    }
+    EigenAnswer {
+        outcome,
+        eigen: Eigen { hi: 0.0, lo: 0.0 },
+    }
+}
+
+// ---- permutation and diagonal matrices
+
+pub fn index_to_permutation_mat(idxs: &[usize], mat: &mut [f64])
+    requires { ⌜ Square (length (now idxs)) (now mat) ⌝ }
+    requires { ⌜ AllBelow (length (now idxs)) (now idxs) ⌝ }
+    ensures { λ _. ⌜ now (mat .exit) ≡ index-to-permutation-mat (now (idxs .entry)) ⌝ }
+{
+    clear(mat);
+    let n = idxs.len();
+    for i in 0..n {
+        put(mat, n, i, idxs[i], 1.0);
+    }
+}
+
+fn permutation_checks(idxs: &[usize], len: usize) -> Outcome
+    ensures { λ r. ⌜ r ≡ permutation-checks (now (idxs .entry)) len ⌝ }
+{
+    let n = idxs.len();
+    let size = checks::check_size(n);
+    if !size.complete() {
+        return size;
+    }
+    let buffer = checks::check_buffer(n * n, len);
+    if !buffer.complete() {
+        return buffer;
+    }
+    checks::check_indices(n, idxs)
+}
+
+pub fn checked_index_to_permutation_mat(idxs: &[usize], mat: &mut [f64]) -> Outcome
+    ensures { λ r. ⌜ record { outcome = r; mat = now (mat .exit) } ≡ checked-index-to-permutation-mat (now (idxs .entry)) (now (mat .entry)) ⌝ }
+{
+    let outcome = permutation_checks(idxs, mat.len());
+    if outcome.complete() {
+        index_to_permutation_mat(idxs, mat);
+    }
+    outcome
+}
+
+pub fn diag_mat_from_arr(arr: &[f64], mat: &mut [f64])
+    requires { ⌜ Square (length (now arr)) (now mat) ⌝ }
+    ensures { λ _. ⌜ now (mat .exit) ≡ diag-mat-from-arr (now (arr .entry)) ⌝ }
+{
+    clear(mat);
+    let n = arr.len();
+    for i in 0..n {
+        put(mat, n, i, i, arr[i]);
+    }
+}
+
+fn diagonal_checks(arr: &[f64], len: usize) -> Outcome
+    ensures { λ r. ⌜ r ≡ diagonal-checks (now (arr .entry)) len ⌝ }
+{
+    let n = arr.len();
+    let size = checks::check_size(n);
+    if !size.complete() {
+        return size;
+    }
+    let buffer = checks::check_buffer(n * n, len);
+    if !buffer.complete() {
+        return buffer;
+    }
+    checks::check_finite(1, arr)
+}
+
+pub fn checked_diag_mat_from_arr(arr: &[f64], mat: &mut [f64]) -> Outcome
+    ensures { λ r. ⌜ record { outcome = r; mat = now (mat .exit) } ≡ checked-diag-mat-from-arr (now (arr .entry)) (now (mat .entry)) ⌝ }
+{
+    let outcome = diagonal_checks(arr, mat.len());
+    if outcome.complete() {
+        diag_mat_from_arr(arr, mat);
+    }
+    outcome
+}

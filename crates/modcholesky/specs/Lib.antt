@@ -1,0 +1,6 @@
+pub mod Marks
+pub mod Statements
+pub mod Result
+pub mod Gmw81
+pub mod Se
+pub mod Factor

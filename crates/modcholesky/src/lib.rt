@@ -1,0 +1,2 @@
+// The modified Cholesky factorizations GMW81, SE90 and SE99.
+pub mod decomposition;
