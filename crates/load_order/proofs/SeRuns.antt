@@ -22,7 +22,9 @@ use Rattle.matrix.proofs.SwapLaws.{transpose, transpose-lt}
 use Rattle.matrix.proofs.Bijection.{Is, is, holds, fails, Bijection, Fixes, bijection-from, bijection-turned, turned, turned-fixes}
 use Rattle.modcholesky.specs.Marks.{mark, marked}
 use Rattle.modcholesky.specs.Statements.{diagonalMax, diagonalFrom, pivotMatrix, pivotList, eliminate, blockFinite}
-use Rattle.modcholesky.specs.Se.{Variant, Tolerances, Run, start, tmpOf, leavesBefore, leavesAfter, leave, pivot, factorize, stepAt, phaseOneStep, inPhaseOne, phaseOne}
+use Rattle.modcholesky.specs.declared.phase_one.Tolerances.{Tolerances}
+use Rattle.modcholesky.specs.declared.phase_one.Variant.{Variant}
+use Rattle.modcholesky.specs.Se.{Run, start, tmpOf, leavesBefore, leavesAfter, leave, pivot, factorize, stepAt, phaseOneStep, inPhaseOne, phaseOne}
 use Rattle.modcholesky.specs.declared.decomposition.Mark.{Mark}
 use Rattle.modcholesky.specs.declared.decomposition.Mark.the-variants.{Never, Step}
 use Rattle.modcholesky.proofs.Tests.{Double, finite-number}

@@ -14,7 +14,9 @@ use Rattle.matrix.specs.Search.{largest}
 use Rattle.matrix.proofs.Bijection.{Is, is, holds, fails}
 use Rattle.modcholesky.specs.Marks.{marked}
 use Rattle.modcholesky.specs.Statements.{diagonalMax, lowerTriangle, reorder}
-use Rattle.modcholesky.specs.Se.{Variant, Tolerances, Run, start, phaseOne, phaseTwoStepAt, phaseTwoStep, lastPair, lastOne, begin, pairs, phaseTwoFrom, phaseTwoAfter, phaseTwo, run, mod-cholesky-se}
+use Rattle.modcholesky.specs.declared.phase_one.Tolerances.{Tolerances}
+use Rattle.modcholesky.specs.declared.phase_one.Variant.{Variant}
+use Rattle.modcholesky.specs.Se.{Run, start, phaseOne, phaseTwoStepAt, phaseTwoStep, lastPair, lastOne, begin, pairs, phaseTwoFrom, phaseTwoAfter, phaseTwo, run, mod-cholesky-se}
 use Rattle.modcholesky.specs.declared.decomposition.Mark.{Mark}
 use Rattle.modcholesky.specs.declared.decomposition.Mark.the-variants.{Never, Step}
 use Rattle.modcholesky.proofs.Moved.{moved-same}

@@ -5,7 +5,9 @@ use Prim.Native.Nat.{ℕ}
 use lib.Ieee.{Float}
 use Rattle.modcholesky.specs.Gmw81.{mod-cholesky-gmw81}
 use Rattle.modcholesky.specs.Gmw81 as gmw
-use Rattle.modcholesky.specs.Se.{Variant, Tolerances, mod-cholesky-se}
+use Rattle.modcholesky.specs.declared.phase_one.Tolerances.{Tolerances}
+use Rattle.modcholesky.specs.declared.phase_one.Variant.{Variant}
+use Rattle.modcholesky.specs.Se.{mod-cholesky-se}
 use Rattle.modcholesky.specs.Se as ses
 use Rattle.modcholesky.specs.Factor.{Method, gmw81, se, factor}
 use Rattle.load_order.specs.LoadOrder.{LoadOrder, reload, Accepted, Alike, LoadOrderTheorem}

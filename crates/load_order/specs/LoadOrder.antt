@@ -13,7 +13,7 @@ use Rattle.matrix.specs.Matrix.{at}
 use Rattle.matrix.specs.Table.{table}
 use Rattle.modcholesky.specs.Result.{Result}
 use Rattle.modcholesky.specs.Factor.{Method, factor}
-use Rattle.modcholesky.specs.Se.{Tolerances}
+use Rattle.modcholesky.specs.declared.phase_one.Tolerances.{Tolerances}
 use Rattle.modcholesky.specs.declared.decomposition.Mark.the-variants.{Never}
 
 -- a load order lists 0 to n - 1, each once

@@ -10,7 +10,10 @@ use lib.Ieee.Scale.{finite}
 use Rattle.arithmetic.specs.Double.{_⊖_, _⊗_, _⊘_, square}
 use Rattle.matrix.specs.Matrix.{at}
 use Rattle.matrix.proofs.Bijection.{Bijection, Fixes, bijection-from, Along}
-use Rattle.modcholesky.specs.Se.{Variant, se90, se99, Tolerances, foldNext, tmpOf, aiiMax, aiiMin, leavesBefore, leavesAfter}
+use Rattle.modcholesky.specs.Se.{foldNext, tmpOf, aiiMax, aiiMin, leavesBefore, leavesAfter}
+use Rattle.modcholesky.specs.declared.phase_one.Tolerances.{Tolerances}
+use Rattle.modcholesky.specs.declared.phase_one.Variant.{Variant}
+use Rattle.modcholesky.specs.declared.phase_one.Variant.the-variants.{Se90, Se99}
 use Rattle.modcholesky.proofs.Tests.{smallest-along, greatest-below, greatest-limit, smallest, greatest}
 use Rattle.modcholesky.proofs.Moved.{Moved}
 use Rattle.modcholesky.proofs.Eliminated.{moved-corner, moved-column}
@@ -28,19 +31,19 @@ tmp-along n j σ τ A B x pj P f M s = smallest-along (j + 1) n σ τ (next A) (
 pub leavesAfter-along : (v : Variant) (t : Tolerances) (gamma : Float) (n j : ℕ) (σ τ : ℕ → ℕ) (A B : List Float) → j < n → Bijection 0 n σ τ → Fixes n (j + 1) σ → Moved n σ A B
     → ((x y : ℕ) → x < n → y < n → at n A x y ≡ at n A y x) → leavesAfter v t gamma (tmpOf n j A) ≡ leavesAfter v t gamma (tmpOf n j B)
 unfolding leavesAfter
-leavesAfter-along se90 t gamma n j σ τ A B pj P f M s = tmp-along n j σ τ A B (t .tau ⊗ gamma) pj P f M s
-leavesAfter-along se99 t gamma n j σ τ A B pj P f M s = tmp-along n j σ τ A B (neg (t .mu) ⊗ gamma) pj P f M s
+leavesAfter-along Se90 t gamma n j σ τ A B pj P f M s = tmp-along n j σ τ A B (t .tau ⊗ gamma) pj P f M s
+leavesAfter-along Se99 t gamma n j σ τ A B pj P f M s = tmp-along n j σ τ A B (neg (t .mu) ⊗ gamma) pj P f M s
 
 -- before the pivot: 0 to j - 1 are fixed
 pub leavesBefore-along : (v : Variant) (t : Tolerances) (gamma : Float) (n j : ℕ) (σ τ : ℕ → ℕ) (A B : List Float) → j < n → Bijection 0 n σ τ → Fixes n j σ → Moved n σ A B
     → ((x : ℕ) → x < n → finite (at n A x x) ≡ true) → ((x : ℕ) → x < n → T (fits binary64 (at n A x x)))
     → leavesBefore v t gamma n j A ≡ leavesBefore v t gamma n j B
 unfolding leavesBefore aiiMax aiiMin
-leavesBefore-along se90 t gamma n j σ τ A B pj P f M fin' dbl = refl
-leavesBefore-along se99 t gamma n j σ τ A B pj P f M fin' dbl =
+leavesBefore-along Se90 t gamma n j σ τ A B pj P f M fin' dbl = refl
+leavesBefore-along Se99 t gamma n j σ τ A B pj P f M fin' dbl =
     let Q = bijection-from n j σ τ P f in
     let along : Along j n σ (λ i. at n A i i) (λ i. at n B i i) = λ i p q. M .moved i i q q in
     ap₂ _||_
-    (greatest-below j n σ τ (λ i. at n A i i) (λ i. at n B i i) pj Q along (λ i p q. fin' i q) (λ i p q. dbl i q) (t .tau-bar ⊗ gamma))
+    (greatest-below j n σ τ (λ i. at n A i i) (λ i. at n B i i) pj Q along (λ i p q. fin' i q) (λ i p q. dbl i q) (t .«tau_bar» ⊗ gamma))
     (smallest-along j n σ τ (λ i. at n A i i) (λ i. at n B i i) (neg (t .mu) ⊗ greatest j n (λ i. at n A i i)) (omega arith) Q along
     ∙ greatest-limit j n σ τ (λ i. at n A i i) (λ i. at n B i i) pj Q along (λ i p q. fin' i q) (λ i p q. dbl i q) (neg (t .mu)) (smallest j n (λ i. at n B i i)))

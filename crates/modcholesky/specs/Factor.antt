@@ -4,7 +4,10 @@ use Prim.Native.Nat.{ℕ}
 use lib.Ieee.{Float, binary64, ofBits}
 use Rattle.modcholesky.specs.Result.{Result}
 use Rattle.modcholesky.specs.Gmw81.{mod-cholesky-gmw81}
-use Rattle.modcholesky.specs.Se.{Variant, se90, se99, Tolerances, mod-cholesky-se}
+use Rattle.modcholesky.specs.Se.{mod-cholesky-se}
+use Rattle.modcholesky.specs.declared.phase_one.Tolerances.{Tolerances}
+use Rattle.modcholesky.specs.declared.phase_one.Variant.{Variant}
+use Rattle.modcholesky.specs.declared.phase_one.Variant.the-variants.{Se90, Se99}
 
 pub data Method : Type 0 where
   gmw81 : Method
@@ -13,8 +16,8 @@ pub data Method : Type 0 where
 -- document 01: 1 GMW81, 2 SE90, 3 SE99
 abbrev pub numberOf : Method → ℕ
 numberOf gmw81 = 1
-numberOf (se se90) = 2
-numberOf (se se99) = 3
+numberOf (se Se90) = 2
+numberOf (se Se99) = 3
 
 unfoldable pub factor : Method → Tolerances → ℕ → List Float → Result
 unfolding mod-cholesky-gmw81 mod-cholesky-se
@@ -30,4 +33,4 @@ abbrev pub mu : Float
 mu = ofBits binary64 0x3fb9_9999_9999_999a
 
 abbrev pub tolerances : Tolerances
-tolerances = record { tau = tau; tau-bar = tau; mu = mu }
+tolerances = record { tau = tau; «tau_bar» = tau; mu = mu }

@@ -18,17 +18,11 @@ use Rattle.matrix.specs.declared.utils.Eigen.{Eigen}
 use Rattle.modcholesky.specs.Marks.{mark, marked}
 use Rattle.modcholesky.specs.Statements.{diagonalMax, diagonalFrom, pivotMatrix, pivotList, eliminate, lowerTriangle, reorder, all, blockFinite}
 use Rattle.modcholesky.specs.Result.{Result, identity, handBack}
+use Rattle.modcholesky.specs.declared.phase_one.Tolerances.{Tolerances}
+use Rattle.modcholesky.specs.declared.phase_one.Variant.{Variant}
+use Rattle.modcholesky.specs.declared.phase_one.Variant.the-variants.{Se90, Se99}
 use Rattle.modcholesky.specs.declared.decomposition.Mark.{Mark}
 use Rattle.modcholesky.specs.declared.decomposition.Mark.the-variants.{Never, Step}
-
-pub data Variant : Type 0 where
-  se90 se99 : Variant
-
--- the constants of a method's own type
-pub record Tolerances : Type 0 where
-  pub tau : Float
-  pub tau-bar : Float
-  pub mu : Float
 
 pub record Run : Type 0 where
   pub l : List Float
@@ -69,16 +63,16 @@ aiiMin n j l = range j n (λ i acc. cond (lt (at n l i i) acc) (at n l i i) acc)
 -- the test before the search: SE99's alone
 unfoldable pub leavesBefore : Variant → Tolerances → Float → ℕ → ℕ → List Float → Bool
 unfolding aiiMax aiiMin neg
-leavesBefore se90 t gamma n j l = false
-leavesBefore se99 t gamma n j l =
+leavesBefore Se90 t gamma n j l = false
+leavesBefore Se99 t gamma n j l =
     let aii-max = aiiMax n j l in
-    lt aii-max (t .tau-bar ⊗ gamma) || lt (aiiMin n j l) (neg (t .mu) ⊗ aii-max)
+    lt aii-max (t .«tau_bar» ⊗ gamma) || lt (aiiMin n j l) (neg (t .mu) ⊗ aii-max)
 
 -- the test after search and swap, on tmp
 unfoldable pub leavesAfter : Variant → Tolerances → Float → Float → Bool
 unfolding lt neg
-leavesAfter se90 t gamma tmp = lt tmp (t .tau ⊗ gamma)
-leavesAfter se99 t gamma tmp = lt tmp (neg (t .mu) ⊗ gamma)
+leavesAfter Se90 t gamma tmp = lt tmp (t .tau ⊗ gamma)
+leavesAfter Se99 t gamma tmp = lt tmp (neg (t .mu) ⊗ gamma)
 
 -- the run leaves phase one at step j
 abbrev pub leave : ℕ → Run → Run
@@ -149,8 +143,8 @@ bounds n k l g = range k n (λ i h. set h i (at n l i i ⊖ rowSum n l i k i ⊖
 
 -- tau * gamma in SE90, tau_bar * gamma in SE99
 unfoldable pub leastAmount : Variant → Tolerances → Float → Float
-leastAmount se90 t gamma = t .tau ⊗ gamma
-leastAmount se99 t gamma = t .tau-bar ⊗ gamma
+leastAmount Se90 t gamma = t .tau ⊗ gamma
+leastAmount Se99 t gamma = t .«tau_bar» ⊗ gamma
 
 -- 0.0.max(delta_prev).max(-l[(j, j)] + normj.max(..))
 unfoldable pub amount : Variant → Tolerances → Float → Float → Float → Float → Float
@@ -203,8 +197,8 @@ phaseTwoStep v t gamma n j s =
 -- SE90: -llo + tau * gamma.max(1.0 / (1.0 - tau) * (lhi - llo)); SE99: -llo + (tau_bar * gamma).max(tau * (lhi - llo) / (1.0 - tau))
 unfoldable pub lastAmount : Variant → Tolerances → Float → Eigen → Float
 unfolding neg
-lastAmount se90 t gamma x = neg (x .lo) ⊕ t .tau ⊗ max gamma (one ⊘ (one ⊖ t .tau) ⊗ (x .hi ⊖ x .lo))
-lastAmount se99 t gamma x = neg (x .lo) ⊕ max (t .tau-bar ⊗ gamma) (t .tau ⊗ (x .hi ⊖ x .lo) ⊘ (one ⊖ t .tau))
+lastAmount Se90 t gamma x = neg (x .lo) ⊕ t .tau ⊗ max gamma (one ⊘ (one ⊖ t .tau) ⊗ (x .hi ⊖ x .lo))
+lastAmount Se99 t gamma x = neg (x .lo) ⊕ max (t .«tau_bar» ⊗ gamma) (t .tau ⊗ (x .hi ⊖ x .lo) ⊘ (one ⊖ t .tau))
 
 -- two rows remain: two eigenvalues and a shared amount, step n - 2
 unfoldable pub lastPair : Variant → Tolerances → Float → ℕ → Run → Run
@@ -236,7 +230,7 @@ unfolding neg sqrt
 lastOne t gamma n s =
     let j = n - 1 in
     let ljj = at n (s .l) j j in
-    let ej = neg ljj ⊕ max (t .tau-bar ⊗ gamma) (t .tau ⊗ neg ljj ⊘ (one ⊖ t .tau)) in
+    let ej = neg ljj ⊕ max (t .«tau_bar» ⊗ gamma) (t .tau ⊗ neg ljj ⊘ (one ⊖ t .tau)) in
     let l₁ = put n (s .l) j j (ljj ⊕ ej) in
     let l₂ = put n l₁ j j (sqrt (at n l₁ j j)) in
     record {
