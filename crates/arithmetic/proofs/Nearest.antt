@@ -146,7 +146,7 @@ positive-not-negative (fin true m e) f p = absurd p
 positive-not-negative (fin false m e) f p = record { double = f; number = refl; sign = le-ltb (m * up e * 1) (0 * 1 * down e) (omega (arith, zero-mul (down e))) }
 
 -- the magnitude in the one way of writing it
-held-by : (y : Float) → NotNegative y → (c : ℕ) × (j : ℕ) × (c < 2 ^ 53) × (c * 2 ^ j ≡ magnitude y)
+pub held-by : (y : Float) → NotNegative y → (c : ℕ) × (j : ℕ) × (c < 2 ^ 53) × (c * 2 ^ j ≡ magnitude y)
 held-by y h = elim (kind y h) [
   | inl z ↦ (0, 0, omega arith, sym (zero-magnitude z))
   | inr q ↦ let k = held y (h .double) q in (k .significand, k .exponent, k .value .bounded .digits, k .value .is)

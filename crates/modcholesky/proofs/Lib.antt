@@ -6,3 +6,4 @@ pub mod PhaseOne
 pub mod Reordered
 pub mod Stored
 pub mod GmwSteps
+pub mod Nearest

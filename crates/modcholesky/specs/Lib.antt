@@ -4,3 +4,4 @@ pub mod Result
 pub mod Gmw81
 pub mod Se
 pub mod Factor
+pub mod Constants

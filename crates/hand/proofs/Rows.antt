@@ -1,0 +1,34 @@
+-- The fourteen hand calculations, by computation of the definitions; and the cases outside the table.
+use mathlib.Core.Path.{_≡_, refl}
+use mathlib.Core.List.{List, [], _∷_}
+use lib.Ieee.{add, sub, mul, div, lt, eq, neg, isNan, ofBits}
+use Rattle.arithmetic.specs.First.{firstFrom}
+use Rattle.arithmetic.specs.Sqrt.{checked-sqrt}
+use Rattle.arithmetic.specs.declared.outcome.Outcome.the-variants.{Complete, SizeOutOfRange}
+use Rattle.matrix.specs.Checks.{check-size}
+use Rattle.matrix.specs.Search.{largest}
+use Rattle.matrix.specs.Eigenvalues.{eigenvaluesOf}
+use Rattle.matrix.specs.Circles.{written, firstOverflow}
+use Rattle.matrix.specs.Calls.{search-checks, eigen-checks, checked-eigenvalues-2x2, circle-checks}
+use Rattle.modcholesky.specs.Factor.{se, factor, tolerances}
+use Rattle.modcholesky.specs.declared.decomposition.Mark.the-variants.{Step}
+use Rattle.modcholesky.specs.declared.phase_one.Variant.the-variants.{Se99}
+use Rattle.hand.specs.Table.{4·, minus, All, table}
+
+pub hand-calculations : All table
+unfolding factor add sub mul div lt eq neg isNan ofBits firstFrom checked-sqrt checked-eigenvalues-2x2 search-checks largest circle-checks written firstOverflow eigenvaluesOf
+hand-calculations = (refl, (refl, (refl, (refl, (refl, (refl, (refl, (refl, (refl, (refl, (refl, (refl, ((refl, refl), (refl, tt))))))))))))))
+
+-- ---- outside the table
+pub size-48 : check-size 48 ≡ Complete
+size-48 = refl
+
+pub size-49 : check-size 49 ≡ SizeOutOfRange
+size-49 = refl
+
+pub size-0 : check-size 0 ≡ SizeOutOfRange
+size-0 = refl
+
+pub se99-enters : factor (se Se99) tolerances 1 (minus 4· ∷ []) .decomposition .phase2 ≡ Step 0
+unfolding factor add sub mul div lt eq neg isNan ofBits
+se99-enters = refl
