@@ -3,6 +3,7 @@ pub mod Loop
 pub mod First
 pub mod Order
 pub mod Same
+pub mod Sign
 pub mod Outcome
 pub mod Sqrt
 pub mod SqrtStages

@@ -6,7 +6,7 @@ use Prim.Native.Nat.{ℕ, _+_, _-_, _≤_, _<_}
 use native.Mathlib.Omega.{arith}
 use lib.ListN.{length, getD}
 use lib.Ieee.{Float, nan, isNan}
-use Rattle.arithmetic.specs.Double.{abs}
+use Rattle.arithmetic.specs.Sign.{abs-number}
 use Rattle.matrix.specs.Matrix.{at}
 use Rattle.matrix.specs.Table.{table, length-table, getD-table}
 use Rattle.matrix.specs.Search.{key, largest}
@@ -17,7 +17,6 @@ use Rattle.modcholesky.specs.Marks.{mark}
 use Rattle.modcholesky.specs.Statements.{diagonalFrom, pivotList}
 use Rattle.modcholesky.specs.declared.decomposition.Mark.{Mark}
 use Rattle.modcholesky.specs.declared.decomposition.Mark.the-variants.{Never, Step}
-use Rattle.modcholesky.proofs.Magnitudes.{abs-number}
 use Rattle.modcholesky.proofs.Moved.{Moved, getD-pivot}
 use Rattle.modcholesky.proofs.Reordered.{Order}
 

@@ -5,3 +5,4 @@ pub mod SearchLaws
 pub mod Filled
 pub mod CheckLaws
 pub mod CallLaws
+pub mod CircleLaws

@@ -14,47 +14,16 @@ use Rattle.arithmetic.specs.Double.{abs, plus-zero}
 use Rattle.arithmetic.specs.Loop.{range, range-ind}
 use Rattle.arithmetic.specs.Order.{lt-irreflexive, lt-transitive, lt-total}
 use Rattle.arithmetic.specs.Same.{signOf, same-double}
+use Rattle.arithmetic.specs.Sign.{abs-sign, abs-number, abs-fits, not-negative, plus-zero-sign}
 use Rattle.matrix.specs.Matrix.{at}
 use Rattle.matrix.proofs.Bijection.{Is, is, holds, fails, not-holds, Bijection, inverse, Along, injective}
 use Rattle.modcholesky.specs.Statements.{largerMagnitude, foldDiagonal, diagonalMax}
 use Rattle.modcholesky.specs.Gmw81.{foldOffDiagonal, foldRow, offDiagonalMax}
 use Rattle.modcholesky.proofs.Tests.{Double}
 
--- ---- magnitudes
-abs-sign : (x : Float) → signOf (abs x) ≡ false
-unfolding abs
-abs-sign nan = refl
-abs-sign (inf s) = refl
-abs-sign (fin s m e) = refl
-
-pub abs-number : (x : Float) → isNan x ≡ false → isNan (abs x) ≡ false
-unfolding abs isNan
-abs-number nan h = h
-abs-number (inf s) h = refl
-abs-number (fin s m e) h = refl
-
-abs-fits : (x : Float) → T (fits binary64 x) → T (fits binary64 (abs x))
-unfolding abs fits
-abs-fits nan h = tt
-abs-fits (inf s) h = tt
-abs-fits (fin s zero e) h = h
-abs-fits (fin s (suc m) e) h = h
-
-not-negative : (x : Float) → signOf x ≡ false → lt x plus-zero ≡ false
-unfolding lt ofBits
-not-negative nan h = refl
-not-negative (inf true) h = absurd (true≢false h)
-not-negative (inf false) h = refl
-not-negative (fin true m e) h = absurd (true≢false h)
-not-negative (fin false m e) h = le-ltb (m * up e * 1) (0 * 1 * down e) (omega arith)
-
 zero-double : Double plus-zero
 unfolding isNan fits ofBits
 zero-double = record { number = refl; double = tt }
-
-zero-sign : signOf plus-zero ≡ false
-unfolding ofBits
-zero-sign = refl
 
 -- ---- acc is the largest magnitude of the values that Value holds of
 record Greatest (Value : Float → Type 0) (acc : Float) : Type 0 where
@@ -64,7 +33,7 @@ record Greatest (Value : Float → Type 0) (acc : Float) : Type 0 where
   from : (acc ≡ plus-zero) ⊎ ((x : Float) × Value x × (acc ≡ abs x))
 
 greatest-none : (Value : Float → Type 0) → ((x : Float) → Value x → ⊥) → Greatest Value plus-zero
-greatest-none Value h = record { double = zero-double; sign = zero-sign; each = λ x v. absurd (h x v); from = inl refl }
+greatest-none Value h = record { double = zero-double; sign = plus-zero-sign; each = λ x v. absurd (h x v); from = inl refl }
 
 -- one value more
 greatest-more : (Value More : Float → Type 0) (y acc : Float) → Double y → ((x : Float) → Value x → More x) → More y → ((x : Float) → More x → Value x ⊎ (x ≡ y))
