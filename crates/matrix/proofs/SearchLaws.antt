@@ -1,5 +1,5 @@
--- The searches: the index is in range and holds the largest, it is the only one where the search is untied, and search and tie go
--- along with a bijection of the positions.
+-- The searches: the index is in range and holds the largest, the first of equals, it is the only one where the search is untied, and
+-- search and tie go along with a bijection of the positions.
 use mathlib.Core.Path.{_≡_, refl, sym, ap, _∙_, subst}
 use mathlib.Core.List.{List}
 use mathlib.Core.Bool.{Bool, true, false, cond, true≢false, false≢true}
@@ -79,6 +79,40 @@ module _ (magnitude : Bool) (c : List Float) (h : 0 < length c) where
   unfolding largest
   largest-top = let B = best-is in
       record { below = B .below; top = λ i q. subst (λ (x : Float). lt x (f i) ≡ false) (B .value) (B .top i q) }
+
+-- ---- the first of equals: every candidate before the index is smaller
+module _ (magnitude : Bool) (c : List Float) (h : 0 < length c) (nn : Numbers (candidate magnitude c) (length c)) where
+  record FirstTo (t : ℕ) (s : Best) : Type 0 where
+    within : s .index < suc t
+    top : (i : ℕ) → i < t → lt (s .max) (candidate magnitude c i) ≡ false
+    earlier : (i : ℕ) → i < s .index → lt (candidate magnitude c i) (s .max) ≡ true
+
+  first-step : (i : ℕ) → 0 ≤ i → i < length c → (s : Best) → FirstTo i s → FirstTo (suc i) (look magnitude c i s)
+  unfolding look
+  first-step i z q s F = go (is (lt (s .max) (candidate magnitude c i)))
+    where
+      go : Is (lt (s .max) (candidate magnitude c i)) → FirstTo (suc i) (look magnitude c i s)
+      go (holds e) = rw e (record {
+        within = omega arith;
+        top = λ k v. elim (ℕ-discrete k i) [
+          | yes w ↦ rw w (lt-irreflexive (candidate magnitude c i))
+          | no w ↦ not-holds (lt (candidate magnitude c i) (candidate magnitude c k)) (λ g. false≢true (sym (F .top k (omega arith)) ∙ lt-transitive (s .max) (candidate magnitude c i) (candidate magnitude c k) e g))
+        ];
+        earlier = λ k v. lt-cotransitive (s .max) (candidate magnitude c k) (candidate magnitude c i) (nn k (omega arith)) e (F .top k v);
+      })
+      go (fails e) = rw e (record {
+        within = omega (arith, F .within);
+        top = λ k v. elim (ℕ-discrete k i) [ yes w ↦ rw w e | no w ↦ F .top k (omega arith) ];
+        earlier = F .earlier;
+      })
+
+  first-is : FirstTo (length c) (bestOf magnitude c)
+  unfolding bestOf
+  first-is = range-ind FirstTo 0 (length c) (look magnitude c) _ (omega arith) (record { within = omega arith; top = λ i q. absurd (omega arith); earlier = λ i q. absurd (omega arith) }) first-step
+
+  pub largest-first : (i : ℕ) → i < largest magnitude c .index → lt (candidate magnitude c i) (candidate magnitude c (largest magnitude c .index)) ≡ true
+  unfolding largest
+  largest-first i q = subst (λ (x : Float). lt (candidate magnitude c i) x ≡ true) (best-is magnitude c h .value) (first-is .earlier i q)
 
 -- ---- the count of candidates that equal x: none, one, or two at least
 data Counted (f : ℕ → Float) (x : Float) (t count : ℕ) : Type 0 where

@@ -7,3 +7,4 @@ pub mod Reordered
 pub mod Stored
 pub mod GmwSteps
 pub mod Nearest
+pub mod Ties
