@@ -1,0 +1,75 @@
+//! Matrices on either side of a decision, one last bit apart.
+
+use super::rng::Rng;
+use super::symmetric::Symmetric;
+use super::{aimed, plain};
+use crate::{factor, GMW81};
+
+/// What is decided: the pivots in GMW81, else the phase-two step.
+type Outcome = (Vec<usize>, Option<usize>);
+
+fn outcome(method: u8, matrix: &Symmetric) -> Outcome {
+    let answer = factor(method, matrix.rows(), matrix.entries());
+    match method {
+        GMW81 => (answer.p, None),
+        _ => (Vec::new(), answer.phase_two),
+    }
+}
+
+/// Moves one diagonal entry to where the outcome changes.
+pub fn last_bit(method: u8, n: usize, step: usize, rng: &mut Rng) -> Symmetric {
+    let start = match method {
+        GMW81 => plain::indefinite(n, rng),
+        _ => aimed::phase_two_at(method, n, step, rng),
+    };
+    let first = outcome(method, &start);
+    for i in rng.permutation(n) {
+        for change in [0.5, -0.5, 4.0, -4.0, 100.0] {
+            let end = start.get(i, i) + change;
+            if outcome(method, &moved(&start, i, end)) != first {
+                return halved(method, &start, i, end, rng);
+            }
+        }
+    }
+    start
+}
+
+fn moved(matrix: &Symmetric, i: usize, entry: f64) -> Symmetric {
+    let mut out = matrix.clone();
+    out.set(i, i, entry);
+    out
+}
+
+/// Between entry (i, i) and `end`, whose outcomes differ, halves the doubles until two are left.
+fn halved(method: u8, start: &Symmetric, i: usize, end: f64, rng: &mut Rng) -> Symmetric {
+    let first = outcome(method, start);
+    let (mut same, mut other) = (rank(start.get(i, i)), rank(end));
+    while (same - other).abs() > 1 {
+        let middle = (same + other).div_euclid(2);
+        if outcome(method, &moved(start, i, double(middle))) == first {
+            same = middle;
+        } else {
+            other = middle;
+        }
+    }
+    moved(start, i, double(rng.pick(&[same, other])))
+}
+
+/// The doubles in order, zero at 0.
+fn rank(x: f64) -> i128 {
+    let size = i128::from(x.abs().to_bits());
+    if x < 0.0 {
+        -size
+    } else {
+        size
+    }
+}
+
+fn double(rank: i128) -> f64 {
+    let size = f64::from_bits(rank.unsigned_abs() as u64);
+    if rank < 0 {
+        -size
+    } else {
+        size
+    }
+}

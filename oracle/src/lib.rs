@@ -1,0 +1,88 @@
+//! The Rust that document 01 lists, asked for its answers in that document's terms.
+
+pub mod generate;
+pub mod helpers;
+
+use modcholesky::{Decomposition, ModCholeskyGMW81, ModCholeskySE90, ModCholeskySE99};
+use ndarray::{Array1, Array2};
+use std::panic::catch_unwind;
+
+pub const GMW81: u8 = 1;
+pub const SE90: u8 = 2;
+pub const SE99: u8 = 3;
+
+pub const COMPLETE: u8 = 0;
+pub const NOT_FINITE: u8 = 9;
+/// No refusal of document 01: the Rust panicked in a run whose stored values were all finite.
+pub const PANICKED: u8 = 255;
+
+#[derive(Clone, Debug, PartialEq)]
+pub struct Answer {
+    pub refusal: u8,
+    /// The refused step; 0 in a complete run.
+    pub step: usize,
+    pub tied: Option<usize>,
+    pub phase_two: Option<usize>,
+    pub l: Vec<f64>,
+    pub e: Vec<f64>,
+    pub p: Vec<usize>,
+}
+
+type Factors = Decomposition<Array2<f64>, Array1<f64>, Array1<usize>>;
+
+/// Factors a matrix that passes checks 2 to 8; any other is a caller's fault and panics.
+pub fn factor(method: u8, n: usize, a: &[f64]) -> Answer {
+    assert!((GMW81..=SE99).contains(&method), "method {method}");
+    assert!(
+        n > 0 && is_accepted(n, a),
+        "not a symmetric matrix of finite entries"
+    );
+    watch::begin();
+    let factors = catch_unwind(|| lists(run(method, n, a)));
+    let marks = watch::end();
+    let (refusal, (l, e, p)) = match (marks.refused, factors) {
+        (None, Ok(lists)) => (COMPLETE, lists),
+        (None, Err(_)) => (PANICKED, fillings(n)),
+        (Some(_), _) => (NOT_FINITE, fillings(n)),
+    };
+    let step = marks.refused.unwrap_or(0);
+    Answer {
+        refusal,
+        step,
+        tied: marks.tied,
+        phase_two: marks.phase_two,
+        l,
+        e,
+        p,
+    }
+}
+
+/// Whether a matrix has n * n finite entries and is symmetric by its bits.
+pub fn is_accepted(n: usize, a: &[f64]) -> bool {
+    let same = |i: usize, j: usize| a[i * n + j].to_bits() == a[j * n + i].to_bits();
+    a.len() == n * n
+        && a.iter().all(|x| x.is_finite())
+        && (0..n).all(|i| (0..i).all(|j| same(i, j)))
+}
+
+fn run(method: u8, n: usize, a: &[f64]) -> Factors {
+    let matrix = Array2::from_shape_vec((n, n), a.to_vec()).unwrap();
+    match method {
+        GMW81 => matrix.mod_cholesky_gmw81(),
+        SE90 => matrix.mod_cholesky_se90(),
+        _ => matrix.mod_cholesky_se99(),
+    }
+}
+
+fn lists(factors: Factors) -> (Vec<f64>, Vec<f64>, Vec<usize>) {
+    (
+        factors.l.into_raw_vec(),
+        factors.e.into_raw_vec(),
+        factors.p.into_raw_vec(),
+    )
+}
+
+/// What refusal 9 writes.
+fn fillings(n: usize) -> (Vec<f64>, Vec<f64>, Vec<usize>) {
+    (vec![0.0; n * n], vec![0.0; n], (0..n).collect())
+}
