@@ -16,7 +16,7 @@ use Rattle.modcholesky.specs.Marks.{marked}
 use Rattle.modcholesky.specs.Statements.{diagonalMax, lowerTriangle, reorder}
 use Rattle.modcholesky.specs.declared.phase_one.Tolerances.{Tolerances}
 use Rattle.modcholesky.specs.declared.phase_one.Variant.{Variant}
-use Rattle.modcholesky.specs.Se.{Run, start, phaseOne, phaseTwoStepAt, phaseTwoStep, lastPair, lastOne, begin, pairs, phaseTwoFrom, phaseTwoAfter, phaseTwo, run, mod-cholesky-se}
+use Rattle.modcholesky.specs.Se.{Run, start, phaseOne, phaseTwoStepAt, phaseTwoStep, pairOf, oneOf, addPair, addOne, addLast, lastPair, lastOne, begin, pairs, phaseTwoFrom, phaseTwoAfter, phaseTwo, run, mod-cholesky-se}
 use Rattle.modcholesky.specs.declared.decomposition.Mark.{Mark}
 use Rattle.modcholesky.specs.declared.decomposition.Mark.the-variants.{Never, Step}
 use Rattle.modcholesky.proofs.Moved.{moved-same}
@@ -48,7 +48,7 @@ module _ (v : Variant) (t : Tolerances) (gamma : Float) (n : ℕ) where
   ]
 
   pairs-keep : (r : Run) (k : ℕ) → Kept r (pairs v t gamma n k r)
-  unfolding pairs lastPair
+  unfolding pairs lastPair addPair pairOf
   pairs-keep r k = go (is (marked (range k (n - 2) (phaseTwoStep v t gamma n) (begin n k r) .refused))) (steps-keep r k)
     where
       go : Is (marked (range k (n - 2) (phaseTwoStep v t gamma n) (begin n k r) .refused)) → Kept r (range k (n - 2) (phaseTwoStep v t gamma n) (begin n k r)) → Kept r (pairs v t gamma n k r)
@@ -56,7 +56,7 @@ module _ (v : Variant) (t : Tolerances) (gamma : Float) (n : ℕ) where
       go (fails e) K = rw e (record { tied = K .tied; phase2 = K .phase2 })
 
   from-keeps : (r : Run) (k : ℕ) → Kept r (phaseTwoFrom v t gamma n k r)
-  unfolding phaseTwoFrom lastOne
+  unfolding phaseTwoFrom lastOne addOne oneOf
   from-keeps r k = go (is (eqb k (n - 1))) (pairs-keep r k)
     where
       go : Is (eqb k (n - 1)) → Kept r (pairs v t gamma n k r) → Kept r (phaseTwoFrom v t gamma n k r)

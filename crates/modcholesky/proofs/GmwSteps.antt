@@ -6,23 +6,21 @@ use Prim.Native.Nat.{ℕ, suc, _+_, _-_, _*_, _≤_, _<_}
 use native.Mathlib.Decide.{ℕ-discrete, decLt}
 use native.Mathlib.Omega.{arith}
 use lib.ListN.{length, getD, replicate, length-replicate, getD-replicate}
-use lib.Dec.{ltb}
-use borrow.Author.Tests.{lt-ltb, le-ltb}
 use lib.Ieee.{Float, nan}
 use Rattle.arithmetic.specs.Double.{plus-zero, _⊕_, _⊖_, _⊗_, _⊘_, square}
-use Rattle.arithmetic.specs.Loop.{range, range-none, range2-ind}
+use Rattle.arithmetic.specs.Loop.{range, range2-ind}
 use Rattle.matrix.specs.Matrix.{at, put, zeros, cell-lt}
 use Rattle.matrix.proofs.EntryLaws.{Entries}
 use Rattle.matrix.proofs.Bijection.{Bijection, Fixes, bijection-from, stays-above, injective}
-use Rattle.modcholesky.specs.Statements.{largerMagnitude}
 use Rattle.modcholesky.specs.Gmw81.{divideRow, dot, column, thetaOf, updateDiagonal, start}
 use Rattle.modcholesky.proofs.Tests.{Double}
-use Rattle.modcholesky.proofs.Magnitudes.{largestMagnitude, largestMagnitude-along}
+use Rattle.modcholesky.proofs.Magnitudes.{largestMagnitude-along}
 use Rattle.modcholesky.proofs.Moved.{Moved}
 use Rattle.modcholesky.proofs.Stored.{Rest, Stored, stored}
+use Rattle.modcholesky.proofs.GmwLaws.{theta-is, diagonal-is}
 
 -- ---- sums of the same terms
-sum-same : (a b : ℕ) (f g : ℕ → Float) → a ≤ b → ((i : ℕ) → a ≤ i → i < b → f i ≡ g i) → range a b (λ k s. s ⊕ f k) plus-zero ≡ range a b (λ k s. s ⊕ g k) plus-zero
+pub sum-same : (a b : ℕ) (f g : ℕ → Float) → a ≤ b → ((i : ℕ) → a ≤ i → i < b → f i ≡ g i) → range a b (λ k s. s ⊕ f k) plus-zero ≡ range a b (λ k s. s ⊕ g k) plus-zero
 sum-same a b f g h e = range2-ind (λ t x y. x ≡ y) a b (λ k s. s ⊕ f k) (λ k s. s ⊕ g k) plus-zero plus-zero h refl (λ i p q x y k. ap₂ _⊕_ k (e i p q))
 
 -- ---- l[(j, s)] = c[(j, s)] / d[s]
@@ -61,15 +59,8 @@ module _ (n j : ℕ) (dj : Float) (c : List Float) (pj : j < n) (h : Entries n c
   abbrev lowered : ℕ → Float
   lowered i = at n c i i ⊖ square (at n c i j) ⊘ dj
 
-  diagonal-range : updateDiagonal n j dj c ≡ range (j + 1) n (λ i m. put n m i i (at n m i i ⊖ square (at n m i j) ⊘ dj)) c
-  unfolding updateDiagonal
-  diagonal-range = elim (decLt j (n - 1)) [
-    | yes p ↦ rw (lt-ltb j (n - 1) p)
-    | no p ↦ rw (le-ltb j (n - 1) (omega arith)) (sym (range-none (j + 1) n (λ i m. put n m i i (at n m i i ⊖ square (at n m i j) ⊘ dj)) c (omega arith)))
-  ]
-
   diagonal-stored : Stored n (j + 1) (λ i. i) (λ i. i) lowered c n (updateDiagonal n j dj c)
-  diagonal-stored = subst (Stored n (j + 1) (λ i. i) (λ i. i) lowered c n) (sym diagonal-range)
+  diagonal-stored = subst (Stored n (j + 1) (λ i. i) (λ i. i) lowered c n) (sym (diagonal-is n j dj c pj))
       (stored n (j + 1) n (λ i. i) (λ i. i) (λ i m. at n m i i ⊖ square (at n m i j) ⊘ dj) lowered c (omega arith) h
       (λ i p q. q) (λ i p q. q) (λ i k p q u w e f. e)
       (λ i p q m r.
@@ -191,19 +182,12 @@ module _ (n j : ℕ) (σ τ : ℕ → ℕ) (pj : j < n) (P : Bijection 0 n σ τ
           ∙ sym (diagonal-at n j dj cA pj (C .entriesA) (σ x) (high x p q) (P .to-high x (omega arith) q))
 
   -- theta has the same bits where the column is finite
-  theta-range : (c : List Float) → thetaOf n j c ≡ largestMagnitude (j + 1) n (λ i. at n c i j)
-  unfolding thetaOf
-  theta-range c = elim (decLt j (n - 1)) [
-    | yes p ↦ rw (lt-ltb j (n - 1) p)
-    | no p ↦ rw (le-ltb j (n - 1) (omega arith)) (sym (range-none (j + 1) n (λ i acc. largerMagnitude acc (at n c i j)) plus-zero (omega arith)))
-  ]
-
   pub theta-moved : (cA cB : List Float) → Moved n σ cA cB → ((i : ℕ) → j < i → i < n → Double (at n cA i j)) → thetaOf n j cA ≡ thetaOf n j cB
   theta-moved cA cB C d =
-      theta-range cA
+      theta-is n j cA pj
       ∙ largestMagnitude-along (j + 1) n σ τ (λ i. at n cA i j) (λ i. at n cB i j) (omega arith) (bijection-from n (j + 1) σ τ P f)
       (λ i p q. C .moved i j q pj ∙ ap (at n cA (σ i)) fixed) (λ i p q. d i (omega arith) q)
-      ∙ sym (theta-range cB)
+      ∙ sym (theta-is n j cB pj)
 
 -- ---- the start: c holds the diagonal of the matrix
 module _ (n : ℕ) (a : List Float) where

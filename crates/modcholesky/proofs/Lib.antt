@@ -8,3 +8,10 @@ pub mod Stored
 pub mod GmwSteps
 pub mod Nearest
 pub mod Ties
+pub mod StatementLaws
+pub mod CallLaws
+pub mod Pivots
+pub mod Scaled
+pub mod GmwLaws
+pub mod Answers
+pub mod SeLaws

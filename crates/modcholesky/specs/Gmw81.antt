@@ -1,4 +1,5 @@
 -- GMW81, statement by statement beside src/gmw81.rs.
+use mathlib.Core.Path.{_≡_}
 use mathlib.Core.List.{List}
 use mathlib.Core.Bool.{Bool, true, cond, not, _&&_}
 use Prim.Native.Nat.{ℕ, _+_, _-_, _*_, _/_, _%_}
@@ -17,6 +18,8 @@ use Rattle.matrix.specs.declared.utils.Found.{Found}
 use Rattle.modcholesky.specs.Marks.{mark, marked}
 use Rattle.modcholesky.specs.Statements.{largerMagnitude, diagonalMax, diagonalFrom, pivotMatrix, pivotList, lowerTriangle, reorder, all}
 use Rattle.modcholesky.specs.Result.{Result, identity, handBack}
+use Rattle.modcholesky.specs.declared.gmw81.Marks.{Marks}
+use Rattle.modcholesky.specs.declared.gmw81.StepValues.{StepValues}
 use Rattle.modcholesky.specs.declared.decomposition.Mark.{Mark}
 use Rattle.modcholesky.specs.declared.decomposition.Mark.the-variants.{Never}
 
@@ -58,6 +61,10 @@ pub record Run : Type 0 where
   pub p : List ℕ
   pub tied : Mark
   pub refused : Mark
+
+-- the variables that a step's code holds: the lists, and the marks beside them
+abbrev pub state : List Float → List Float → List Float → List Float → List ℕ → Marks → Run
+state l c d e p marks = record { l = l; c = c; d = d; e = e; p = p; tied = marks .tied; refused = marks .refused }
 
 -- c.diag_mut().assign(&l.diag())
 unfoldable pub start : ℕ → List Float → Run
@@ -130,6 +137,20 @@ stepAt n delta beta j max-idx tie s =
       refused = mark (s .refused) (not (storedFinite n j l₂ c₃ dj ej)) j;
     }
 
+-- the values of a step between its pivot and its stores to d and e, as the code hands them on
+abbrev pub c₂Of : ℕ → ℕ → ℕ → List Float → List Float → List Float → List Float
+c₂Of n j max-idx l c d = column n j (divideRow n j (pivotMatrix n j max-idx c) d (pivotMatrix n j max-idx l)) (pivotMatrix n j max-idx c)
+
+abbrev pub djOf : ℕ → Float → Float → ℕ → List Float → Float
+djOf n delta beta j c₂ = dOf (at n c₂ j j) (thetaOf n j c₂) beta delta
+
+pub record Stepped (n : ℕ) (delta beta : Float) (j max-idx : ℕ) (l c d l' c' : List Float) (v : StepValues) : Type 0 where
+  pub l-is : l' ≡ divideRow n j (pivotMatrix n j max-idx c) d (pivotMatrix n j max-idx l)
+  pub c-is : c' ≡ updateDiagonal n j (djOf n delta beta j (c₂Of n j max-idx l c d)) (c₂Of n j max-idx l c d)
+  pub d-is : v .d ≡ djOf n delta beta j (c₂Of n j max-idx l c d)
+  pub e-is : v .e ≡ v .d ⊖ at n c' j j
+  pub pivot-is : v .pivot ≡ max-idx
+
 -- index_of_largest_abs(&c.diag().slice(s![j..])); nothing once the run is refused
 unfoldable pub step : ℕ → Float → Float → ℕ → Run → Run
 unfolding largest diagonalFrom stepAt
@@ -175,6 +196,13 @@ finish n s =
       refused = mark (s .refused) (not (scaledFinite n dout l)) n;
     } in
     cond (marked (s .refused)) s next
+
+-- what the code's end of a run leaves: c and d are used up
+pub record Finished (n : ℕ) (l c d e : List Float) (p : List ℕ) (marks : Marks) (l' e' : List Float) (r : Marks) : Type 0 where
+  pub l-is : l' ≡ finish n (state l c d e p marks) .l
+  pub e-is : e' ≡ finish n (state l c d e p marks) .e
+  pub tied-is : r .tied ≡ finish n (state l c d e p marks) .tied
+  pub refused-is : r .refused ≡ finish n (state l c d e p marks) .refused
 
 unfoldable pub run : ℕ → List Float → Run
 unfolding range start step finish diagonalMax offDiagonalMax deltaOf betaOf

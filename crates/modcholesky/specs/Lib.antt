@@ -5,3 +5,4 @@ pub mod Gmw81
 pub mod Se
 pub mod Factor
 pub mod Constants
+pub mod Calls

@@ -18,9 +18,12 @@ use Rattle.matrix.specs.declared.utils.Eigen.{Eigen}
 use Rattle.modcholesky.specs.Marks.{mark, marked}
 use Rattle.modcholesky.specs.Statements.{diagonalMax, diagonalFrom, pivotMatrix, pivotList, eliminate, lowerTriangle, reorder, all, blockFinite}
 use Rattle.modcholesky.specs.Result.{Result, identity, handBack}
+use Rattle.modcholesky.specs.declared.phase_one.Progress.{Progress}
 use Rattle.modcholesky.specs.declared.phase_one.Tolerances.{Tolerances}
 use Rattle.modcholesky.specs.declared.phase_one.Variant.{Variant}
 use Rattle.modcholesky.specs.declared.phase_one.Variant.the-variants.{Se90, Se99}
+use Rattle.modcholesky.specs.declared.phase_two.Last.{Last}
+use Rattle.modcholesky.specs.declared.phase_two.Last.the-variants.{One, Pair}
 use Rattle.modcholesky.specs.declared.decomposition.Mark.{Mark}
 use Rattle.modcholesky.specs.declared.decomposition.Mark.the-variants.{Never, Step}
 
@@ -33,6 +36,10 @@ pub record Run : Type 0 where
   pub tied : Mark
   pub phase2 : Mark
   pub refused : Mark
+
+-- the variables that a step's code holds: the lists, and what stands beside them
+abbrev pub state : List Float → List Float → List Float → List ℕ → Progress → Run
+state l e g p r = record { l = l; e = e; g = g; p = p; delta-prev = r .«delta_prev»; tied = r .tied; phase2 = r .phase2; refused = r .refused }
 
 unfoldable pub start : ℕ → List Float → Run
 unfolding table
@@ -200,14 +207,26 @@ unfolding neg
 lastAmount Se90 t gamma x = neg (x .lo) ⊕ t .tau ⊗ max gamma (one ⊘ (one ⊖ t .tau) ⊗ (x .hi ⊖ x .lo))
 lastAmount Se99 t gamma x = neg (x .lo) ⊕ max (t .«tau_bar» ⊗ gamma) (t .tau ⊗ (x .hi ⊖ x .lo) ⊘ (one ⊖ t .tau))
 
--- two rows remain: two eigenvalues and a shared amount, step n - 2
-unfoldable pub lastPair : Variant → Tolerances → Float → ℕ → Run → Run
-unfolding eigenvaluesOf lastAmount lt sqrt
-lastPair v t gamma n s =
+-- two rows remain: two eigenvalues with a shared amount, e[n - 2] = 0.0.max(..).max(delta_prev)
+unfoldable pub pairOf : Variant → Tolerances → Float → ℕ → List Float → Float → Last
+unfolding eigenvaluesOf lastAmount
+pairOf v t gamma n l delta-prev =
     let a = n - 2 in
     let b = n - 1 in
-    let x = eigenvaluesOf (at n (s .l) a a) (at n (s .l) a b) (at n (s .l) b a) (at n (s .l) b b) in
-    let ea = max (max plus-zero (lastAmount v t gamma x)) (s .delta-prev) in
+    let x = eigenvaluesOf (at n l a a) (at n l a b) (at n l b a) (at n l b b) in
+    Pair x (max (max plus-zero (lastAmount v t gamma x)) delta-prev)
+
+-- SE99 with one row left: e[j] = -l[(j, j)] + (tau_bar * gamma).max(tau * (-l[(j, j)]) / (1.0 - tau))
+unfoldable pub oneOf : Tolerances → Float → Float → Last
+unfolding neg
+oneOf t gamma ljj = One (neg ljj ⊕ max (t .«tau_bar» ⊗ gamma) (t .tau ⊗ neg ljj ⊘ (one ⊖ t .tau)))
+
+-- the pair's amount is added to both rows, and the block is factorized: step n - 2
+unfoldable pub addPair : ℕ → Eigen → Float → Run → Run
+unfolding lt sqrt
+addPair n x ea s =
+    let a = n - 2 in
+    let b = n - 1 in
     let l₁ = put n (s .l) a a (added (at n (s .l) a a) ea) in
     let l₂ = put n l₁ b b (added (at n l₁ b b) ea) in
     let l₃ = put n l₂ a a (sqrt (at n l₂ a a)) in
@@ -224,14 +243,12 @@ lastPair v t gamma n s =
       refused = mark (s .refused) (not (finite (x .hi) && finite (x .lo) && finite ea && finite (at n l₂ a a) && finite (at n l₂ b b) && finite (at n l₃ a a) && finite (at n l₄ b a) && finite (at n l₅ b b))) a;
     }
 
--- SE99 with one row left: e[j] = -l[(j, j)] + (tau_bar * gamma).max(tau * (-l[(j, j)]) / (1.0 - tau)), step n - 1
-unfoldable pub lastOne : Tolerances → Float → ℕ → Run → Run
-unfolding neg sqrt
-lastOne t gamma n s =
+-- the one amount is added to the last row, and its root taken: step n - 1
+unfoldable pub addOne : ℕ → Float → Run → Run
+unfolding sqrt
+addOne n ej s =
     let j = n - 1 in
-    let ljj = at n (s .l) j j in
-    let ej = neg ljj ⊕ max (t .«tau_bar» ⊗ gamma) (t .tau ⊗ neg ljj ⊘ (one ⊖ t .tau)) in
-    let l₁ = put n (s .l) j j (ljj ⊕ ej) in
+    let l₁ = put n (s .l) j j (at n (s .l) j j ⊕ ej) in
     let l₂ = put n l₁ j j (sqrt (at n l₁ j j)) in
     record {
       l = l₂;
@@ -243,6 +260,24 @@ lastOne t gamma n s =
       phase2 = s .phase2;
       refused = mark (s .refused) (not (finite ej && finite (at n l₁ j j) && finite (at n l₂ j j))) j;
     }
+
+-- what phase two adds last, by its cases
+abbrev pub addLast : ℕ → Last → Run → Run
+addLast n (One ej) s = addOne n ej s
+addLast n (Pair x ea) s = addPair n x ea s
+
+-- how many rows it needs
+abbrev pub rowsOf : Last → ℕ
+rowsOf (One ej) = 1
+rowsOf (Pair x ea) = 2
+
+unfoldable pub lastPair : Variant → Tolerances → Float → ℕ → Run → Run
+unfolding pairOf addPair
+lastPair v t gamma n s = addLast n (pairOf v t gamma n (s .l) (s .delta-prev)) s
+
+unfoldable pub lastOne : Tolerances → Float → ℕ → Run → Run
+unfolding oneOf addOne
+lastOne t gamma n s = addLast n (oneOf t gamma (at n (s .l) (n - 1) (n - 1))) s
 
 -- phase two from step k: g counts as step k
 unfoldable pub begin : ℕ → ℕ → Run → Run

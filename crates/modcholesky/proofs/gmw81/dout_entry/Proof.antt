@@ -1,0 +1,19 @@
+use borrow.Author.Needs.{needs}
+use borrow.Author.Tests.{eq-eqb, ne-eqb}
+use Rattle.modcholesky.proofs.gmw81.dout_entry.Statement.{statement}
+use Rattle.modcholesky.proofs.gmw81.dout_entry.Tie as tie
+
+mul-result : tie.Need-mul-result
+mul-result c = search needs
+
+shared-slice-read-result : tie.Need-shared-slice-read-result
+shared-slice-read-result c = search needs
+
+returns : tie.Need-returns
+returns c = rw (eq-eqb _ _ (c .before .if1 .taken))
+
+returns-2 : tie.Need-returns-2
+returns-2 c = rw (ne-eqb _ _ (c .if1 .left))
+
+pub dout-entry-spec : {M : Type 1} → statement M
+dout-entry-spec = tie.close (tie.spec mul-result shared-slice-read-result returns returns-2)

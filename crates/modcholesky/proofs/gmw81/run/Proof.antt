@@ -1,0 +1,164 @@
+use mathlib.Core.Path.{_≡_, refl, sym, ap, _∙_, subst}
+use mathlib.Core.List.{List}
+use Prim.Native.Nat.{ℕ}
+use native.Mathlib.Omega.{arith}
+use borrow.Author.Needs.{needs}
+use lib.Ieee.{Float}
+use Rattle.arithmetic.specs.Loop.{range}
+use Rattle.matrix.specs.Plain.{AllBelow}
+use Rattle.modcholesky.specs.Calls.{Call, answered}
+use Rattle.modcholesky.specs.Gmw81.{Run, state, start, step, finish, Finished, run, mod-cholesky-gmw81, offDiagonalMax, deltaOf, betaOf}
+use Rattle.modcholesky.specs.Result.{handBack}
+use Rattle.modcholesky.specs.Statements.{diagonalMax}
+use Rattle.modcholesky.specs.declared.decomposition.Mark.the-variants.{Never}
+use Rattle.modcholesky.specs.declared.gmw81.Marks.{Marks}
+use Rattle.modcholesky.proofs.GmwLaws.{finish-order, steps-rows}
+use Rattle.modcholesky.proofs.Pivots.{Rows}
+use Rattle.modcholesky.proofs.gmw81.run.Statement.{statement}
+use Rattle.modcholesky.proofs.gmw81.run.Tie as tie
+
+run-is : (n : ℕ) (a : List Float) → run n a
+    ≡ finish n (range 0 n (step n (deltaOf (diagonalMax n a) (offDiagonalMax n a)) (betaOf n (diagonalMax n a) (offDiagonalMax n a))) (start n a))
+unfolding run
+run-is n a = refl
+
+result-is : (n : ℕ) (a : List Float) → mod-cholesky-gmw81 n a ≡ handBack n (run n a .tied) Never (run n a .refused) (run n a .l) (run n a .e) (run n a .p)
+unfolding mod-cholesky-gmw81
+result-is n a = refl
+
+rows : (n : ℕ) (a : List Float) (delta beta : Float) (s₁ s₂ : Run) → s₁ ≡ start n a → s₂ ≡ range 0 n (step n delta beta) s₁ → AllBelow n (s₂ .p)
+rows n a delta beta s₁ s₂ e₁ e₂ =
+    let R : Rows n (s₂ .p) = subst (λ (s : Run). Rows n (s .p)) (sym (e₂ ∙ ap (range 0 n (step n delta beta)) e₁)) (steps-rows n delta beta a) in
+    R .below
+
+ran : (n : ℕ) (a : List Float) (diag-max off-diag-max delta beta : Float) (s₁ : Run) (l c d e : List Float) (p : List ℕ) (m : Marks) (l' e' : List Float) (m' : Marks) (r : Call)
+    → diag-max ≡ diagonalMax n a → off-diag-max ≡ offDiagonalMax n a → delta ≡ deltaOf diag-max off-diag-max → beta ≡ betaOf n diag-max off-diag-max
+    → s₁ ≡ start n a → state l c d e p m ≡ range 0 n (step n delta beta) s₁ → Finished n l c d e p m l' e' m'
+    → r ≡ answered n (handBack n (m' .tied) Never (m' .refused) l' e' p) → r ≡ answered n (mod-cholesky-gmw81 n a)
+ran n a diag-max off-diag-max delta beta s₁ l c d e p m l' e' m' r ex ey ed eb e₁ e₂ F er =
+    let q : finish n (state l c d e p m) ≡ run n a = rw (e₂, e₁, ed, eb, ex, ey) (sym (run-is n a)) in
+    er ∙ ap (answered n) (rw (F .l-is, F .e-is, F .tied-is, F .refused-is, result-is, ← q) (rw (finish-order n (state l c d e p m))))
+
+diagonal-max-requires : tie.Need-diagonal-max-requires
+diagonal-max-requires c κs = search needs
+
+off-diagonal-max-requires : tie.Need-off-diagonal-max-requires
+off-diagonal-max-requires c κs = search needs
+
+delta-of-requires : tie.Need-delta-of-requires
+delta-of-requires c κs = search needs
+
+beta-of-requires : tie.Need-beta-of-requires
+beta-of-requires c κs = search needs
+
+begin-requires : tie.Need-begin-requires
+begin-requires c κs = search needs
+
+steps-requires : tie.Need-steps-requires
+steps-requires c κs =
+    let c₁ = c .before .before .before .before .before .before .before .before .before .before .before .before .before .before .before .before in
+    let c₂ = c₁ .before .before .before .before .before .before .before .before .before .before .before .before .before .before .before .before .before in
+    omega (arith, c₁ .begin .kept, c₂ .pre)
+
+finish-requires : tie.Need-finish-requires
+finish-requires c κs =
+    let c₁ = c .before .before .before .before .before .before .before .before .before .before .before .before .before .before .before .before .before .before in
+    let c₂ = c₁ .before in
+    let c₃ = c₂ .before .before .before .before .before .before .before .before .before .before .before .before .before .before .before .before in
+    let c₄ = c₃ .before .before .before .before .before .before .before .before .before .before .before .before .before .before .before .before .before in
+    let h = steps-requires c₂ κs in
+    let a = c₄ .args in
+    let k = c₁ .steps .kept in
+    (omega (arith, h, k), (omega (arith, h, k), (omega (arith, h, k, c₄ .pre), rows (a .n) (a .a .now) _ _ _ _ (c₃ .begin .ensures) (c₁ .steps .ensures))))
+
+hand-back-requires : tie.Need-hand-back-requires
+hand-back-requires c κs =
+    let c₁ = c .before .before .before .before .before .before .before .before .before .before .before .before .before .before in
+    let c₂ = c₁ .before .before .before .before .before .before .before .before .before .before .before .before .before .before .before .before .before .before .before in
+    let c₃ = c₂ .before .before .before .before .before .before .before .before .before .before .before .before .before .before .before .before .before in
+    let c₄ = c₃ .before .before .before .before .before .before .before .before .before .before .before .before .before .before .before .before .before in
+    omega (arith, c₁ .finish .kept, c₂ .steps .kept, c₃ .begin .kept, c₄ .pre)
+
+same-length : tie.Need-same-length
+same-length c =
+    let c₁ = c .before .before .before .before .before .before .before .before in
+    let c₂ = c₁ .before .before .before .before .before .before .before .before .before .before .before .before .before .before .before in
+    let c₃ = c₂ .before .before .before .before .before .before .before .before .before .before .before .before .before .before .before .before .before .before .before in
+    let c₄ = c₃ .before .before .before .before .before .before .before .before .before .before .before .before .before .before .before .before .before in
+    omega (arith, c₁ .hand-back .kept, c₂ .finish .kept, c₃ .steps .kept, c₄ .begin .kept)
+
+same-length-2 : tie.Need-same-length-2
+same-length-2 c =
+    let c₁ = c .before .before .before .before .before .before .before .before in
+    let c₂ = c₁ .before .before .before .before .before .before .before .before .before .before .before .before .before .before .before in
+    let c₃ = c₂ .before .before .before .before .before .before .before .before .before .before .before .before .before .before .before .before .before .before .before in
+    let c₄ = c₃ .before .before .before .before .before .before .before .before .before .before .before .before .before .before .before .before .before in
+    omega (arith, c₁ .hand-back .kept, c₂ .finish .kept, c₃ .steps .kept, c₄ .begin .kept)
+
+same-length-3 : tie.Need-same-length-3
+same-length-3 c =
+    let c₁ = c .before .before .before .before .before .before .before .before in
+    let c₂ = c₁ .before .before .before .before .before .before .before .before .before .before .before .before .before .before .before in
+    let c₃ = c₂ .before .before .before .before .before .before .before .before .before .before .before .before .before .before .before .before .before .before .before in
+    let c₄ = c₃ .before .before .before .before .before .before .before .before .before .before .before .before .before .before .before .before .before in
+    omega (arith, c₁ .hand-back .kept, c₂ .finish .kept, c₃ .steps .kept, c₄ .begin .kept)
+
+same-length-4 : tie.Need-same-length-4
+same-length-4 c =
+    let c₁ = c .before .before .before .before .before .before .before .before in
+    let c₂ = c₁ .before .before .before .before .before .before .before .before .before .before .before .before .before .before .before in
+    let c₃ = c₂ .before .before .before .before .before .before .before .before .before .before .before .before .before .before .before .before .before .before .before in
+    let c₄ = c₃ .before .before .before .before .before .before .before .before .before .before .before .before .before .before .before .before .before in
+    omega (arith, c₁ .hand-back .kept, c₂ .finish .kept, c₃ .steps .kept, c₄ .begin .kept)
+
+same-length-5 : tie.Need-same-length-5
+same-length-5 c =
+    let c₁ = c .before .before .before .before .before .before .before .before in
+    let c₂ = c₁ .before .before .before .before .before .before .before .before .before .before .before .before .before .before .before in
+    let c₃ = c₂ .before .before .before .before .before .before .before .before .before .before .before .before .before .before .before .before .before .before .before in
+    let c₄ = c₃ .before .before .before .before .before .before .before .before .before .before .before .before .before .before .before .before .before in
+    omega (arith, c₁ .hand-back .kept, c₂ .finish .kept, c₃ .steps .kept, c₄ .begin .kept)
+
+same-length-6 : tie.Need-same-length-6
+same-length-6 c =
+    let c₁ = c .before .before .before .before .before .before .before .before in
+    let c₂ = c₁ .before .before .before .before .before .before .before .before .before .before .before .before .before .before .before in
+    let c₃ = c₂ .before .before .before .before .before .before .before .before .before .before .before .before .before .before .before .before .before .before .before in
+    let c₄ = c₃ .before .before .before .before .before .before .before .before .before .before .before .before .before .before .before .before .before in
+    omega (arith, c₁ .hand-back .kept, c₂ .finish .kept, c₃ .steps .kept, c₄ .begin .kept)
+
+returns : tie.Need-returns
+returns c =
+    let c₁ = c .before .before .before .before .before .before .before .before in
+    let c₂ = c₁ .before .before .before .before .before .before .before .before .before .before .before .before .before .before .before in
+    let c₃ = c₂ .before .before .before .before .before .before .before .before .before .before .before .before .before .before .before .before .before .before .before in
+    let c₄ = c₃ .before .before .before .before .before .before .before .before .before .before .before .before .before .before .before .before .before in
+    let c₅ = c₄ .before .before .before .before .before .before in
+    let c₆ = c₅ .before in
+    let c₇ = c₆ .before in
+    let c₈ = c₇ .before in
+    let c₉ = c₈ .before .before .before .before .before .before .before .before in
+    let a = c₉ .args in
+    ran (a .n) (a .a .now) _ _ _ _ _ _ _ _ _ _ _ _ _ _ _
+    (c₈ .diagonal-max .ensures) (c₇ .off-diagonal-max .ensures) (c₆ .delta-of .ensures) (c₅ .beta-of .ensures)
+    (c₄ .begin .ensures) (c₃ .steps .ensures) (c₂ .finish .ensures) (c₁ .hand-back .ensures)
+
+pub run-spec : {M : Type 1} → statement M
+run-spec =
+    tie.close
+    (tie.spec
+    diagonal-max-requires
+    off-diagonal-max-requires
+    delta-of-requires
+    beta-of-requires
+    begin-requires
+    steps-requires
+    finish-requires
+    hand-back-requires
+    same-length
+    same-length-2
+    same-length-3
+    same-length-4
+    same-length-5
+    same-length-6
+    returns)

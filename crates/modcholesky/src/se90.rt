@@ -1,0 +1,57 @@
+// src/se90.rs: Schnabel and Eskow 1990.
+ghost use mathlib.Core.Path.{_≡_};
+ghost use Rattle.modcholesky.specs.Calls.{call, factor-call};
+ghost use Rattle.modcholesky.specs.Factor.{se, tolerances};
+use crate::calls;
+use crate::decomposition::Decomposition;
+use crate::phase_one::Tolerances;
+use crate::phase_one::Variant;
+use crate::phase_two;
+use crate::se99::Se99;
+
+pub struct Se90 {}
+
+impl Se90 {
+    // The double nearest the cube root of EPSILON.
+    pub const TAU: f64 = 0.0000060554544523933395;
+
+    pub fn tolerances() -> Tolerances
+        ensures { λ r. ⌜ r ≡ tolerances ⌝ }
+    {
+        Tolerances {
+            tau: Se90::TAU,
+            tau_bar: Se99::TAU_BAR,
+            mu: Se99::MU,
+        }
+    }
+}
+
+pub fn mod_cholesky_se90(
+    a: &[f64],
+    n: usize,
+    l: &mut [f64],
+    work: &mut [f64],
+    e: &mut [f64],
+    p: &mut [usize],
+) -> Decomposition
+    ensures { λ r. ⌜ call r (now (l .exit)) (now (work .exit)) (now (e .exit)) (now (p .exit)) ≡ factor-call (se Variant.Se90) n (now (a .entry)) (now (l .entry)) (now (work .entry)) (now (e .entry)) (now (p .entry)) ⌝ }
+{
+    let outcome = calls::factor_checks(a, n, l.len(), work.len(), e.len(), p.len());
+    if !outcome.complete() {
+        return calls::untouched(outcome);
+    }
+    let mut g = [0.0; 48];
+    let mut diag = [0.0; 48];
+    phase_two::mod_cholesky_se(
+        Variant::Se90,
+        Se90::tolerances(),
+        a,
+        n,
+        l,
+        work,
+        e,
+        &mut g[0..n],
+        &mut diag[0..n],
+        p,
+    )
+}
