@@ -28,7 +28,8 @@ use Rattle.modcholesky.proofs.Reordered.{Order, reorder-along}
 use Rattle.modcholesky.proofs.GmwSteps.{column-at, diagonal-other, row-moved, row-fixed, column-moved, diagonal-moved, theta-moved, start-at, start-moved}
 use Rattle.load_order.specs.LoadOrder.{LoadOrder}
 use Rattle.load_order.proofs.Inverse.{order}
-use Rattle.load_order.proofs.Picks.{mark-set, mark-clear, mark-keeps, pick-below, picks-tied, picks-correspond, pivot-permutes, identity-permutes}
+use Rattle.modcholesky.proofs.Pivots.{pick-below}
+use Rattle.load_order.proofs.Picks.{mark-set, mark-clear, mark-keeps, picks-tied, picks-correspond, pivot-permutes, identity-permutes}
 use Rattle.load_order.proofs.Ends.{End, Ended, both-tied, both-refused, both-complete}
 use Rattle.load_order.proofs.SeRuns.{Loaded, all-double, gamma-same, identity-own}
 
@@ -297,7 +298,7 @@ module _ (n : ℕ) (delta beta : Float) where
         go (fails e) = untied
             (step-tied j (pick j A) (ties j A) A ∙ mark-clear (A .tied) (ties j A) j untied-so-far e)
             (subst (λ (u : Bool). After n s (suc j) (stepAt n delta beta j (pick j A) (ties j A) A) (stepAt n delta beta j (pick j B) u B)) same-ties
-            (step-in-step n delta beta s j A B L (pick j A) (pick j B) (ties j A) pj (pick-below n j (A .c) true pj) (pick-below n j (B .c) true pj)
+            (step-in-step n delta beta s j A B L (pick j A) (pick j B) (ties j A) pj (pick-below true n j (A .c) pj) (pick-below true n j (B .c) pj)
             (picks-correspond true n j (L .σ) (L .τ) (A .c) (B .c) pj (L .bijection) (L .fixes) (L .moved-c) numbers e)))
 
     runs-step : (A B : Run) → Runs n s j A B → Runs n s (suc j) (step n delta beta j A) (step n delta beta j B)

@@ -8,16 +8,17 @@ use lib.ListN.{length, getD}
 use lib.Ieee.{Float, nan, isNan}
 use Rattle.arithmetic.specs.Sign.{abs-number}
 use Rattle.matrix.specs.Matrix.{at}
-use Rattle.matrix.specs.Table.{table, length-table, getD-table}
+use Rattle.matrix.specs.Table.{table, getD-table}
 use Rattle.matrix.specs.Search.{key, largest}
 use Rattle.matrix.proofs.SwapLaws.{transpose, transpose-lt, transpose-twice}
 use Rattle.matrix.proofs.Bijection.{Bijection, Fixes, bijection-from, counted, bijection-counted, Along}
-use Rattle.matrix.proofs.SearchLaws.{candidate, Numbers, largest-top, tied-along, index-along}
+use Rattle.matrix.proofs.SearchLaws.{candidate, Numbers, tied-along, index-along}
 use Rattle.modcholesky.specs.Marks.{mark}
 use Rattle.modcholesky.specs.Statements.{diagonalFrom, pivotList}
 use Rattle.modcholesky.specs.declared.decomposition.Mark.{Mark}
 use Rattle.modcholesky.specs.declared.decomposition.Mark.the-variants.{Never, Step}
 use Rattle.modcholesky.proofs.Moved.{Moved, getD-pivot}
+use Rattle.modcholesky.proofs.Pivots.{length-diagonal, pick-below}
 use Rattle.modcholesky.proofs.Reordered.{Order}
 
 -- ---- marks
@@ -35,17 +36,9 @@ clash m t p q = absurd (let z : _≡_ {A = ℕ} 0 1 = cc in omega arith)
 
 -- ---- searches of the diagonal from j on
 module _ (n j : ℕ) (m : List Float) where
-  diagonal-length : length (diagonalFrom n m j) ≡ n - j
-  unfolding diagonalFrom
-  diagonal-length = length-table (n - j) (λ i. at n m (j + i) (j + i))
-
   diagonal-candidate : (magnitude : Bool) (i : ℕ) → i < n - j → candidate magnitude (diagonalFrom n m j) i ≡ key magnitude (at n m (j + i) (j + i))
   unfolding diagonalFrom
   diagonal-candidate magnitude i q = ap (key magnitude) (getD-table (n - j) (λ k. at n m (j + k) (j + k)) i nan q)
-
-  -- the pivot is a position from j on
-  pub pick-below : (magnitude : Bool) → j < n → j + largest magnitude (diagonalFrom n m j) .index < n
-  pick-below magnitude pj = omega (arith, diagonal-length, largest-top magnitude (diagonalFrom n m j) (omega (arith, diagonal-length)) .below)
 
 key-number : (magnitude : Bool) (x : Float) → isNan x ≡ false → isNan (key magnitude x) ≡ false
 unfolding key
@@ -73,15 +66,15 @@ module _ (magnitude : Bool) (n j : ℕ) (σ τ : ℕ → ℕ) (A B : List Float)
   numbers i q = rw (diagonal-candidate n j A magnitude i q) (key-number magnitude (at n A (j + i) (j + i)) (nn (j + i) (omega arith) (omega arith)))
 
   pub picks-tied : largest magnitude (diagonalFrom n A j) .tied ≡ largest magnitude (diagonalFrom n B j) .tied
-  picks-tied = tied-along magnitude (n - j) (counted j σ) (counted j τ) (diagonalFrom n A j) (diagonalFrom n B j) (diagonal-length n j A) (diagonal-length n j B) (omega arith) relative along numbers
+  picks-tied = tied-along magnitude (n - j) (counted j σ) (counted j τ) (diagonalFrom n A j) (diagonalFrom n B j) (length-diagonal n j A) (length-diagonal n j B) (omega arith) relative along numbers
 
   pub picks-correspond : largest magnitude (diagonalFrom n A j) .tied ≡ false → σ (j + largest magnitude (diagonalFrom n B j) .index) ≡ j + largest magnitude (diagonalFrom n A j) .index
   picks-correspond e =
       let b : ℕ = largest magnitude (diagonalFrom n B j) .index in
-      let h : j + b < n = pick-below n j B magnitude pj in
+      let h : j + b < n = pick-below magnitude n j B pj in
       let l : j ≤ σ (j + b) = from .to-low (j + b) (omega arith) h in
       let k : counted j σ b ≡ largest magnitude (diagonalFrom n A j) .index =
-      index-along magnitude (n - j) (counted j σ) (counted j τ) (diagonalFrom n A j) (diagonalFrom n B j) (diagonal-length n j A) (diagonal-length n j B) (omega arith) relative along numbers e in
+      index-along magnitude (n - j) (counted j σ) (counted j τ) (diagonalFrom n A j) (diagonalFrom n B j) (length-diagonal n j A) (length-diagonal n j B) (omega arith) relative along numbers e in
       omega arith
 
 -- ---- a pivot keeps p a permutation

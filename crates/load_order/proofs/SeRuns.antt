@@ -33,7 +33,8 @@ use Rattle.modcholesky.proofs.Moved.{Moved, pivot-entries, pivot-at, pivot-symm
 use Rattle.modcholesky.proofs.Eliminated.{eliminated, low-row, low-column, eliminate-at, eliminate-symmetric, eliminate-moved}
 use Rattle.modcholesky.proofs.PhaseOne.{leavesBefore-along, leavesAfter-along}
 use Rattle.modcholesky.proofs.Reordered.{Order}
-use Rattle.load_order.proofs.Picks.{mark-set, mark-clear, mark-keeps, pick-below, picks-tied, picks-correspond, pivot-permutes, identity-permutes}
+use Rattle.modcholesky.proofs.Pivots.{pick-below}
+use Rattle.load_order.proofs.Picks.{mark-set, mark-clear, mark-keeps, picks-tied, picks-correspond, pivot-permutes, identity-permutes}
 
 -- a finite double
 pub record Good (x : Float) : Type 0 where
@@ -253,7 +254,7 @@ module _ (v : Variant) (t : Tolerances) (gamma : Float) (n : ℕ) where
         searched p (fails e) = untied
             (step-tied j (pick j A) (ties j A) A ∙ mark-clear (A .tied) (ties j A) j untied-so-far e)
             (subst (λ (u : Bool). After n s (suc j) (stepAt v t gamma n j (pick j A) (ties j A) A) (stepAt v t gamma n j (pick j B) u B)) same-ties
-            (step-in-step v t gamma n s j A B L (pick j A) (pick j B) (ties j A) pj (pick-below n j (A .l) false pj) (pick-below n j (B .l) false pj)
+            (step-in-step v t gamma n s j A B L (pick j A) (pick j B) (ties j A) pj (pick-below false n j (A .l) pj) (pick-below false n j (B .l) pj)
             (picks-correspond false n j (L .σ) (L .τ) (A .l) (B .l) pj (L .bijection) (L .fixes) (L .moved) numbers e)))
 
         go : Is (leavesBefore v t gamma n j (A .l)) → Is (ties j A) → Runs n s (suc j) (phaseOneStep v t gamma n j A) (phaseOneStep v t gamma n j B)
