@@ -59,6 +59,3 @@ module _ (n : ℕ) (a : List Float) (l work e p : ℕ) where
 
   pub factor-accepted : Accepted (factor-checks n a l work e p) → Lengths n a l work e p
   factor-accepted h = lengths-accepted (factor-parts h .0)
-
-  pub factor-finite : Accepted (factor-checks n a l work e p) → AllFinite n a
-  factor-finite h = entries-accepted n a (factor-accepted h .square) (both-accepted (check-finite n a) (check-symmetric n a) (factor-parts h .1) .0)

@@ -32,9 +32,6 @@ reordered n p q ec P h = range-ind (PutTo n p ec) 0 n (λ i e. set e (getD p i 0
       ];
     })
 
-pub length-reorder : (n : ℕ) (p : List ℕ) (q : ℕ → ℕ) (ec : List Float) → Order n p q → length ec ≡ n → length (reorder n p ec) ≡ n
-length-reorder n p q ec P h = reordered n p q ec P h .len
-
 pub reorder-at : (n : ℕ) (p : List ℕ) (q : ℕ → ℕ) (ec : List Float) → Order n p q → length ec ≡ n → (t : ℕ) → t < n → getD (reorder n p ec) (getD p t 0) nan ≡ getD ec t nan
 reorder-at n p q ec P h = reordered n p q ec P h .done
 

@@ -14,7 +14,7 @@ use Rattle.arithmetic.specs.Loop.{range, range-none, range-ind}
 use Rattle.matrix.specs.Matrix.{Square, at, put}
 use Rattle.matrix.specs.Search.{largest}
 use Rattle.matrix.specs.Swap.{swap}
-use Rattle.matrix.specs.Table.{table, length-table}
+use Rattle.matrix.specs.Table.{table}
 use Rattle.matrix.specs.declared.utils.Found.{Found}
 use Rattle.matrix.proofs.EntryLaws.{put-entries, at-put-same}
 use Rattle.matrix.proofs.SearchLaws.{largest-top}
@@ -27,6 +27,7 @@ use Rattle.modcholesky.specs.declared.phase_one.Tolerances.{Tolerances}
 use Rattle.modcholesky.specs.declared.phase_one.Variant.{Variant}
 use Rattle.modcholesky.specs.declared.phase_two.Last.{Last}
 use Rattle.modcholesky.specs.declared.phase_two.Last.the-variants.{One, Pair}
+use Rattle.modcholesky.proofs.Pivots.{pick-below}
 
 -- ---- a test's arms
 pub cond-true : {A : Type 0} {b : Bool} (x y : A) → b ≡ true → x ≡ cond b x y
@@ -63,12 +64,8 @@ pub at-stored : {n : ℕ} {m m' : List Float} (i j : ℕ) (v : Float) → m' ≡
 at-stored {n} {m} i j v e s p q = rw e (at-put-same n m i j v (s .len) p q)
 
 -- ---- the pivot is a position from j on
-diagonal-length : (n j : ℕ) (l : List Float) → length (diagonalFrom n l j) ≡ n - j
-unfolding diagonalFrom
-diagonal-length n j l = length-table (n - j) (λ i. at n l (j + i) (j + i))
-
 pub diagonal-pick : (n j : ℕ) (l : List Float) (f : Found) → f ≡ largest false (diagonalFrom n l j) → j < n → j + f .index < n
-diagonal-pick n j l f e h = rw e (omega (arith, diagonal-length n j l, largest-top false (diagonalFrom n l j) (omega (arith, diagonal-length n j l)) .below))
+diagonal-pick n j l f e h = rw e (pick-below false n j l h)
 
 pub part-is : (j n : ℕ) (g : List Float) → length g ≡ n → take (length g - j) (drop j g) ≡ drop j g
 part-is j n g e = take-all (length g - j) (drop j g) (omega (arith, length-drop j g))

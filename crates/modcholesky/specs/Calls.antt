@@ -47,10 +47,11 @@ factor-call method n a l work e p =
     let checks = factor-checks n a (length l) (length work) (length e) (length p) in
     cond (complete checks) (answered n (factor method tolerances n a)) (untouched checks l work e p)
 
--- by number: 2 first
+-- refusal 2
 abbrev pub check-method : ℕ → Outcome
 check-method number = refuse (not (leb 1 number && leb number 3)) UnknownMethod
 
+-- document 01: 1 GMW81, 2 SE90, 3 SE99
 abbrev pub methodOf : ℕ → Method
 methodOf number = cond (leb number 1) gmw81 (cond (leb number 2) (se Se90) (se Se99))
 

@@ -7,17 +7,10 @@ use Rattle.modcholesky.specs.Gmw81.{mod-cholesky-gmw81}
 use Rattle.modcholesky.specs.Se.{mod-cholesky-se}
 use Rattle.modcholesky.specs.declared.phase_one.Tolerances.{Tolerances}
 use Rattle.modcholesky.specs.declared.phase_one.Variant.{Variant}
-use Rattle.modcholesky.specs.declared.phase_one.Variant.the-variants.{Se90, Se99}
 
 pub data Method : Type 0 where
   gmw81 : Method
   se : Variant → Method
-
--- document 01: 1 GMW81, 2 SE90, 3 SE99
-abbrev pub numberOf : Method → ℕ
-numberOf gmw81 = 1
-numberOf (se Se90) = 2
-numberOf (se Se99) = 3
 
 unfoldable pub factor : Method → Tolerances → ℕ → List Float → Result
 unfolding mod-cholesky-gmw81 mod-cholesky-se
