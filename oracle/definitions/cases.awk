@@ -5,8 +5,8 @@ function start() {
     print "use mathlib.Core.Path.{_≡_, refl}" > file
     print "use mathlib.Core.List.{List, [], _∷_}" > file
     print "use lib.Ieee.{add, sub, mul, div, lt, eq, neg, isNan}" > file
-    print "use Rattle.modcholesky.specs.Factor.{gmw81, se}" > file
-    print "use Rattle.modcholesky.specs.declared.phase_one.Variant.the-variants.{Se90, Se99}" > file
+    print "use Rattle.methods.specs.Factor.{gmw81, se}" > file
+    print "use Rattle.methods.specs.declared.schnabel_eskow.Variant.the-variants.{Se90, Se99}" > file
     print "use Rattle.cases.specs.Bits.{answer}" > file
 }
 

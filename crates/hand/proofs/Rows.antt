@@ -10,9 +10,9 @@ use Rattle.matrix.specs.Search.{largest}
 use Rattle.matrix.specs.Eigenvalues.{eigenvaluesOf}
 use Rattle.matrix.specs.Circles.{written, firstOverflow}
 use Rattle.matrix.specs.Calls.{search-checks, eigen-checks, checked-eigenvalues-2x2, circle-checks}
-use Rattle.modcholesky.specs.Factor.{se, factor, tolerances}
-use Rattle.modcholesky.specs.declared.decomposition.Mark.the-variants.{Step}
-use Rattle.modcholesky.specs.declared.phase_one.Variant.the-variants.{Se99}
+use Rattle.methods.specs.Factor.{se, factor, tolerances}
+use Rattle.methods.specs.declared.decomposition.Mark.the-variants.{Step}
+use Rattle.methods.specs.declared.schnabel_eskow.Variant.the-variants.{Se99}
 use Rattle.hand.specs.Table.{4·, minus, All, table}
 
 pub hand-calculations : All table

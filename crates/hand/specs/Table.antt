@@ -14,12 +14,12 @@ use Rattle.matrix.specs.Matrix.{zeros}
 use Rattle.matrix.specs.Calls.{checked-eigenvalues-2x2, checked-gershgorin-circles, CirclesCall, circlesCall, checked-search}
 use Rattle.matrix.specs.declared.utils.EigenAnswer.{EigenAnswer}
 use Rattle.matrix.specs.declared.utils.SearchAnswer.{SearchAnswer}
-use Rattle.modcholesky.specs.Result.{Result}
-use Rattle.modcholesky.specs.Factor.{Method, gmw81, se, factor, tolerances}
-use Rattle.modcholesky.specs.declared.decomposition.Decomposition.{Decomposition}
-use Rattle.modcholesky.specs.declared.decomposition.Mark.{Mark}
-use Rattle.modcholesky.specs.declared.decomposition.Mark.the-variants.{Never, Step}
-use Rattle.modcholesky.specs.declared.phase_one.Variant.the-variants.{Se90}
+use Rattle.methods.specs.Result.{Result}
+use Rattle.methods.specs.Factor.{Method, gmw81, se, factor, tolerances}
+use Rattle.methods.specs.declared.decomposition.Decomposition.{Decomposition}
+use Rattle.methods.specs.declared.decomposition.Mark.{Mark}
+use Rattle.methods.specs.declared.decomposition.Mark.the-variants.{Never, Step}
+use Rattle.methods.specs.declared.schnabel_eskow.Variant.the-variants.{Se90}
 
 -- ---- numbers of the table
 abbrev 1· : Float

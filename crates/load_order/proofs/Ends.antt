@@ -9,9 +9,9 @@ use Rattle.arithmetic.specs.Double.{plus-zero}
 use Rattle.arithmetic.specs.declared.outcome.Outcome.{Outcome}
 use Rattle.arithmetic.specs.declared.outcome.Outcome.the-variants.{Complete, StoredNotFinite}
 use Rattle.matrix.specs.Matrix.{zeros}
-use Rattle.modcholesky.specs.Result.{Result, handBack, outcomeOf, filled, filledOrder}
-use Rattle.modcholesky.specs.declared.decomposition.Mark.{Mark}
-use Rattle.modcholesky.specs.declared.decomposition.Mark.the-variants.{Never, Step}
+use Rattle.methods.specs.Result.{Result, handBack, outcomeOf, filled, filledOrder}
+use Rattle.methods.specs.declared.decomposition.Mark.{Mark}
+use Rattle.methods.specs.declared.decomposition.Mark.the-variants.{Never, Step}
 use Rattle.load_order.specs.LoadOrder.{LoadOrder, AlikeThroughout, Alike}
 use Rattle.load_order.proofs.Picks.{clash}
 

@@ -16,19 +16,19 @@ use Rattle.matrix.specs.Table.{table, length-table}
 use Rattle.matrix.specs.Search.{largest}
 use Rattle.matrix.proofs.SwapLaws.{transpose}
 use Rattle.matrix.proofs.Bijection.{Is, is, holds, fails, Bijection, Fixes, bijection-from, bijection-turned, turned, turned-fixes, Along}
-use Rattle.modcholesky.specs.Marks.{mark, marked}
-use Rattle.modcholesky.specs.Statements.{diagonalMax, diagonalFrom, pivotMatrix, pivotList, reorder, all}
-use Rattle.modcholesky.specs.Gmw81.{Run, start, divideRow, column, dot, thetaOf, dOf, updateDiagonal, storedFinite, stepAt, step, doutOf, unitLower, product, scaledFinite, finish, run, offDiagonalMax, deltaOf, betaOf}
-use Rattle.modcholesky.specs.declared.decomposition.Mark.{Mark}
-use Rattle.modcholesky.specs.declared.decomposition.Mark.the-variants.{Never, Step}
-use Rattle.modcholesky.proofs.Tests.{Double, finite-number, all-each, all-true, all-along}
-use Rattle.modcholesky.proofs.Magnitudes.{offDiagonalMax-along}
-use Rattle.modcholesky.proofs.Moved.{Moved, moved-same, pivot-entries, pivot-moved, length-pivot, pivot-order}
-use Rattle.modcholesky.proofs.Reordered.{Order, reorder-along}
-use Rattle.modcholesky.proofs.GmwSteps.{column-at, diagonal-other, row-moved, row-fixed, column-moved, diagonal-moved, theta-moved, start-at, start-moved}
+use Rattle.methods.specs.Marks.{mark, marked}
+use Rattle.methods.specs.Statements.{diagonalMax, diagonalFrom, pivotMatrix, pivotList, reorder, all}
+use Rattle.methods.specs.Gmw81.{Run, start, divideRow, column, dot, thetaOf, dOf, updateDiagonal, storedFinite, stepAt, step, doutOf, unitLower, product, scaledFinite, finish, run, offDiagonalMax, deltaOf, betaOf}
+use Rattle.methods.specs.declared.decomposition.Mark.{Mark}
+use Rattle.methods.specs.declared.decomposition.Mark.the-variants.{Never, Step}
+use Rattle.methods.proofs.Tests.{Double, finite-number, all-each, all-true, all-along}
+use Rattle.methods.proofs.Magnitudes.{offDiagonalMax-along}
+use Rattle.methods.proofs.Moved.{Moved, moved-same, pivot-entries, pivot-moved, length-pivot, pivot-order}
+use Rattle.methods.proofs.Reordered.{Order, reorder-along}
+use Rattle.methods.proofs.GmwSteps.{column-at, diagonal-other, row-moved, row-fixed, column-moved, diagonal-moved, theta-moved, start-at, start-moved}
 use Rattle.load_order.specs.LoadOrder.{LoadOrder}
 use Rattle.load_order.proofs.Inverse.{order}
-use Rattle.modcholesky.proofs.Pivots.{pick-below}
+use Rattle.methods.proofs.Pivots.{pick-below}
 use Rattle.load_order.proofs.Picks.{mark-set, mark-clear, mark-keeps, picks-tied, picks-correspond, pivot-permutes, identity-permutes}
 use Rattle.load_order.proofs.Ends.{End, Ended, both-tied, both-refused, both-complete}
 use Rattle.load_order.proofs.SeRuns.{Loaded, all-double, gamma-same, identity-own}

@@ -15,7 +15,7 @@ use Rattle.matrix.specs.Table.{table, length-table, getD-table}
 use Rattle.matrix.proofs.EntryLaws.{Entries, row-of, column-of}
 use Rattle.matrix.proofs.SwapLaws.{transpose, transposed, first, second, other, transpose-second, transpose-twice}
 use Rattle.matrix.proofs.Bijection.{Bijection}
-use Rattle.modcholesky.proofs.Moved.{Moved}
+use Rattle.methods.proofs.Moved.{Moved}
 use Rattle.load_order.specs.LoadOrder.{LoadOrder, reload}
 
 abbrev Injective : ℕ → (ℕ → ℕ) → Type 0

@@ -13,13 +13,13 @@ use Rattle.matrix.specs.Search.{key, largest}
 use Rattle.matrix.proofs.SwapLaws.{transpose, transpose-lt, transpose-twice}
 use Rattle.matrix.proofs.Bijection.{Bijection, Fixes, bijection-from, counted, bijection-counted, Along}
 use Rattle.matrix.proofs.SearchLaws.{candidate, Numbers, tied-along, index-along}
-use Rattle.modcholesky.specs.Marks.{mark}
-use Rattle.modcholesky.specs.Statements.{diagonalFrom, pivotList}
-use Rattle.modcholesky.specs.declared.decomposition.Mark.{Mark}
-use Rattle.modcholesky.specs.declared.decomposition.Mark.the-variants.{Never, Step}
-use Rattle.modcholesky.proofs.Moved.{Moved, getD-pivot}
-use Rattle.modcholesky.proofs.Pivots.{length-diagonal, pick-below}
-use Rattle.modcholesky.proofs.Reordered.{Order}
+use Rattle.methods.specs.Marks.{mark}
+use Rattle.methods.specs.Statements.{diagonalFrom, pivotList}
+use Rattle.methods.specs.declared.decomposition.Mark.{Mark}
+use Rattle.methods.specs.declared.decomposition.Mark.the-variants.{Never, Step}
+use Rattle.methods.proofs.Moved.{Moved, getD-pivot}
+use Rattle.methods.proofs.Pivots.{length-diagonal, pick-below}
+use Rattle.methods.proofs.Reordered.{Order}
 
 -- ---- marks
 pub mark-set : (m : Mark) (b : Bool) (j : ℕ) → m ≡ Never → b ≡ true → mark m b j ≡ Step j

@@ -20,20 +20,20 @@ use Rattle.matrix.specs.Search.{largest}
 use Rattle.matrix.proofs.EntryLaws.{Entries}
 use Rattle.matrix.proofs.SwapLaws.{transpose, transpose-lt}
 use Rattle.matrix.proofs.Bijection.{Is, is, holds, fails, Bijection, Fixes, bijection-from, bijection-turned, turned, turned-fixes}
-use Rattle.modcholesky.specs.Marks.{mark, marked}
-use Rattle.modcholesky.specs.Statements.{diagonalMax, diagonalFrom, pivotMatrix, pivotList, eliminate, blockFinite}
-use Rattle.modcholesky.specs.declared.phase_one.Tolerances.{Tolerances}
-use Rattle.modcholesky.specs.declared.phase_one.Variant.{Variant}
-use Rattle.modcholesky.specs.Se.{Run, start, tmpOf, leavesBefore, leavesAfter, leave, pivot, factorize, stepAt, phaseOneStep, inPhaseOne, phaseOne}
-use Rattle.modcholesky.specs.declared.decomposition.Mark.{Mark}
-use Rattle.modcholesky.specs.declared.decomposition.Mark.the-variants.{Never, Step}
-use Rattle.modcholesky.proofs.Tests.{Double, finite-number}
-use Rattle.modcholesky.proofs.Magnitudes.{diagonalMax-along}
-use Rattle.modcholesky.proofs.Moved.{Moved, pivot-entries, pivot-at, pivot-symmetric, pivot-moved, length-pivot, pivot-order, block-each, block-moved}
-use Rattle.modcholesky.proofs.Eliminated.{eliminated, low-row, low-column, eliminate-at, eliminate-symmetric, eliminate-moved}
-use Rattle.modcholesky.proofs.PhaseOne.{leavesBefore-along, leavesAfter-along}
-use Rattle.modcholesky.proofs.Reordered.{Order}
-use Rattle.modcholesky.proofs.Pivots.{pick-below}
+use Rattle.methods.specs.Marks.{mark, marked}
+use Rattle.methods.specs.Statements.{diagonalMax, diagonalFrom, pivotMatrix, pivotList, eliminate, blockFinite}
+use Rattle.methods.specs.declared.schnabel_eskow.Tolerances.{Tolerances}
+use Rattle.methods.specs.declared.schnabel_eskow.Variant.{Variant}
+use Rattle.methods.specs.Se.{Run, start, tmpOf, leavesBefore, leavesAfter, leave, pivot, factorize, stepAt, phaseOneStep, inPhaseOne, phaseOne}
+use Rattle.methods.specs.declared.decomposition.Mark.{Mark}
+use Rattle.methods.specs.declared.decomposition.Mark.the-variants.{Never, Step}
+use Rattle.methods.proofs.Tests.{Double, finite-number}
+use Rattle.methods.proofs.Magnitudes.{diagonalMax-along}
+use Rattle.methods.proofs.Moved.{Moved, pivot-entries, pivot-at, pivot-symmetric, pivot-moved, length-pivot, pivot-order, block-each, block-moved}
+use Rattle.methods.proofs.Eliminated.{eliminated, low-row, low-column, eliminate-at, eliminate-symmetric, eliminate-moved}
+use Rattle.methods.proofs.PhaseOne.{leavesBefore-along, leavesAfter-along}
+use Rattle.methods.proofs.Reordered.{Order}
+use Rattle.methods.proofs.Pivots.{pick-below}
 use Rattle.load_order.proofs.Picks.{mark-set, mark-clear, mark-keeps, picks-tied, picks-correspond, pivot-permutes, identity-permutes}
 
 -- a finite double

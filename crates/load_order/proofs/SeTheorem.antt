@@ -12,15 +12,15 @@ use Rattle.arithmetic.specs.Loop.{range, range-ind, range-none}
 use Rattle.matrix.specs.Matrix.{at}
 use Rattle.matrix.specs.Search.{largest}
 use Rattle.matrix.proofs.Bijection.{Is, is, holds, fails}
-use Rattle.modcholesky.specs.Marks.{marked}
-use Rattle.modcholesky.specs.Statements.{diagonalMax, lowerTriangle, reorder}
-use Rattle.modcholesky.specs.declared.phase_one.Tolerances.{Tolerances}
-use Rattle.modcholesky.specs.declared.phase_one.Variant.{Variant}
-use Rattle.modcholesky.specs.Se.{Run, start, phaseOne, phaseTwoStepAt, phaseTwoStep, pairOf, oneOf, addPair, addOne, addLast, lastPair, lastOne, begin, pairs, phaseTwoFrom, phaseTwoAfter, phaseTwo, run, mod-cholesky-se}
-use Rattle.modcholesky.specs.declared.decomposition.Mark.{Mark}
-use Rattle.modcholesky.specs.declared.decomposition.Mark.the-variants.{Never, Step}
-use Rattle.modcholesky.proofs.Moved.{moved-same}
-use Rattle.modcholesky.proofs.Reordered.{reorder-along}
+use Rattle.methods.specs.Marks.{marked}
+use Rattle.methods.specs.Statements.{diagonalMax, lowerTriangle, reorder}
+use Rattle.methods.specs.declared.schnabel_eskow.Tolerances.{Tolerances}
+use Rattle.methods.specs.declared.schnabel_eskow.Variant.{Variant}
+use Rattle.methods.specs.Se.{Run, start, phaseOne, phaseTwoStepAt, phaseTwoStep, pairOf, oneOf, addPair, addOne, addLast, lastPair, lastOne, begin, pairs, phaseTwoFrom, phaseTwoAfter, phaseTwo, run, mod-cholesky-se}
+use Rattle.methods.specs.declared.decomposition.Mark.{Mark}
+use Rattle.methods.specs.declared.decomposition.Mark.the-variants.{Never, Step}
+use Rattle.methods.proofs.Moved.{moved-same}
+use Rattle.methods.proofs.Reordered.{reorder-along}
 use Rattle.load_order.specs.LoadOrder.{LoadOrder}
 use Rattle.load_order.proofs.Inverse.{order}
 use Rattle.load_order.proofs.Ends.{End, Ended, both-tied, both-left, both-refused, both-complete}

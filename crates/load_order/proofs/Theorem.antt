@@ -3,13 +3,13 @@ use mathlib.Core.Path.{_≡_}
 use mathlib.Core.List.{List}
 use Prim.Native.Nat.{ℕ}
 use lib.Ieee.{Float}
-use Rattle.modcholesky.specs.Gmw81.{mod-cholesky-gmw81}
-use Rattle.modcholesky.specs.Gmw81 as gmw
-use Rattle.modcholesky.specs.declared.phase_one.Tolerances.{Tolerances}
-use Rattle.modcholesky.specs.declared.phase_one.Variant.{Variant}
-use Rattle.modcholesky.specs.Se.{mod-cholesky-se}
-use Rattle.modcholesky.specs.Se as ses
-use Rattle.modcholesky.specs.Factor.{Method, gmw81, se, factor}
+use Rattle.methods.specs.Gmw81.{mod-cholesky-gmw81}
+use Rattle.methods.specs.Gmw81 as gmw
+use Rattle.methods.specs.declared.schnabel_eskow.Tolerances.{Tolerances}
+use Rattle.methods.specs.declared.schnabel_eskow.Variant.{Variant}
+use Rattle.methods.specs.Se.{mod-cholesky-se}
+use Rattle.methods.specs.Se as ses
+use Rattle.methods.specs.Factor.{Method, gmw81, se, factor}
 use Rattle.load_order.specs.LoadOrder.{LoadOrder, reload, Accepted, Alike, LoadOrderTheorem}
 use Rattle.load_order.proofs.Inverse.{order, position, order-bijection, reloaded}
 use Rattle.load_order.proofs.Ends.{ended-alike}

@@ -11,10 +11,10 @@ use lib.Ieee.Scale.{finite}
 use Rattle.arithmetic.specs.declared.outcome.Outcome.the-variants.{Complete}
 use Rattle.matrix.specs.Matrix.{at}
 use Rattle.matrix.specs.Table.{table}
-use Rattle.modcholesky.specs.Result.{Result}
-use Rattle.modcholesky.specs.Factor.{Method, factor}
-use Rattle.modcholesky.specs.declared.phase_one.Tolerances.{Tolerances}
-use Rattle.modcholesky.specs.declared.decomposition.Mark.the-variants.{Never}
+use Rattle.methods.specs.Result.{Result}
+use Rattle.methods.specs.Factor.{Method, factor}
+use Rattle.methods.specs.declared.schnabel_eskow.Tolerances.{Tolerances}
+use Rattle.methods.specs.declared.decomposition.Mark.the-variants.{Never}
 
 -- a load order lists 0 to n - 1, each once
 pub record LoadOrder (n : ℕ) (s : List ℕ) : Type 0 where

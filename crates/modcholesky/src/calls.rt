@@ -3,18 +3,18 @@ ghost use mathlib.Core.Path.{_≡_};
 ghost use Prim.Native.Nat.{ℕ, _*_};
 ghost use lib.ListN.{length};
 ghost use Rattle.matrix.specs.Matrix.{Square, zeros};
-ghost use Rattle.modcholesky.specs.Result.{handBack, outcomeOf};
-ghost use Rattle.modcholesky.specs.Calls.{call, answered, length-checks, factor-checks, numbered-call};
-ghost use Rattle.modcholesky.specs.declared.decomposition.Mark.the-variants.{Never};
-use crate::decomposition::Decomposition;
-use crate::decomposition::Mark;
+ghost use Rattle.methods.specs.Result.{handBack, outcomeOf};
+ghost use Rattle.methods.specs.Calls.{call, answered, length-checks, factor-checks, numbered-call};
+ghost use Rattle.methods.specs.declared.decomposition.Mark.the-variants.{Never};
 use crate::gmw81::mod_cholesky_gmw81;
 use crate::se90::mod_cholesky_se90;
 use crate::se99::mod_cholesky_se99;
-use crate::statements::count_up;
 use arithmetic::outcome::Outcome;
 use matrix::checks;
 use matrix::entries::clear;
+use methods::decomposition::Decomposition;
+use methods::decomposition::Mark;
+use statements::count_up;
 
 pub fn factor_checks(a: &[f64], n: usize, l: usize, work: usize, e: usize, p: usize) -> Outcome
     ensures { λ r. ⌜ r ≡ factor-checks n (now (a .entry)) l work e p ⌝ }

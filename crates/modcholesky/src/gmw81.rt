@@ -13,18 +13,12 @@ ghost use Rattle.matrix.specs.Matrix.{Square, at, put, zeros};
 ghost use Rattle.matrix.specs.Plain.{AllBelow};
 ghost use Rattle.matrix.specs.Table.{table};
 ghost use Rattle.arithmetic.specs.Sqrt.{sqrt};
-ghost use Rattle.modcholesky.specs.Statements.{all};
-ghost use Rattle.modcholesky.specs.Result.{handBack};
-ghost use Rattle.modcholesky.specs.Calls.{call, answered, factor-call};
-ghost use Rattle.modcholesky.specs.Factor.{gmw81};
-ghost use Rattle.modcholesky.specs.Gmw81.{Stepped, Finished, foldOffDiagonal, foldRow, offDiagonalMax, deltaOf, betaOf, state, start, divideRow, dot, column, thetaOf, dOf, updateDiagonal, storedFinite, stepAt, step, doutOf, unitLower, product, scaledFinite, finish, run, mod-cholesky-gmw81};
+ghost use Rattle.methods.specs.Statements.{all};
+ghost use Rattle.methods.specs.Result.{handBack};
+ghost use Rattle.methods.specs.Calls.{call, answered, factor-call};
+ghost use Rattle.methods.specs.Factor.{gmw81};
+ghost use Rattle.methods.specs.Gmw81.{Stepped, Finished, foldOffDiagonal, foldRow, offDiagonalMax, deltaOf, betaOf, state, start, divideRow, dot, column, thetaOf, dOf, updateDiagonal, storedFinite, stepAt, step, doutOf, unitLower, product, scaledFinite, finish, run, mod-cholesky-gmw81};
 use crate::calls;
-use crate::decomposition::Decomposition;
-use crate::decomposition::Mark;
-use crate::statements;
-use crate::statements::block_finite;
-use crate::statements::both;
-use crate::statements::larger_magnitude;
 use arithmetic::double;
 use arithmetic::double::abs;
 use arithmetic::double::finite;
@@ -34,19 +28,13 @@ use arithmetic::sqrt::sqrt;
 use matrix::entries::clear;
 use matrix::entries::get;
 use matrix::entries::put;
-
-// The tied and the refused step so far.
-pub struct Marks {
-    pub tied: Mark,
-    pub refused: Mark,
-}
-
-// A step's values: d[j], e[j] and the pivot after j.
-pub struct StepValues {
-    pub d: f64,
-    pub e: f64,
-    pub pivot: usize,
-}
+use methods::decomposition::Decomposition;
+use methods::decomposition::Mark;
+use methods::gmw81::Marks;
+use methods::gmw81::StepValues;
+use statements::block_finite;
+use statements::both;
+use statements::larger_magnitude;
 
 // ---- before the steps
 

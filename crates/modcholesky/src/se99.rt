@@ -1,12 +1,12 @@
 // src/se99.rs: Schnabel and Eskow 1999.
 ghost use mathlib.Core.Path.{_≡_};
-ghost use Rattle.modcholesky.specs.Calls.{call, factor-call};
-ghost use Rattle.modcholesky.specs.Factor.{se, tolerances};
+ghost use Rattle.methods.specs.Calls.{call, factor-call};
+ghost use Rattle.methods.specs.Factor.{se, tolerances};
 use crate::calls;
-use crate::decomposition::Decomposition;
-use crate::phase_one::Tolerances;
-use crate::phase_one::Variant;
-use crate::phase_two;
+use crate::se;
+use methods::decomposition::Decomposition;
+use methods::schnabel_eskow::Tolerances;
+use methods::schnabel_eskow::Variant;
 
 pub struct Se99 {}
 
@@ -45,7 +45,7 @@ pub fn mod_cholesky_se99(
     }
     let mut g = [0.0; 48];
     let mut diag = [0.0; 48];
-    phase_two::mod_cholesky_se(
+    se::mod_cholesky_se(
         Variant::Se99,
         Se99::tolerances(),
         a,

@@ -5,11 +5,11 @@ use native.Mathlib.Omega.{arith}
 use borrow.Author.Tests.{lt-leb, le-leb}
 use lib.Ieee.{Float}
 use Rattle.arithmetic.specs.declared.outcome.Outcome.the-variants.{UnknownMethod}
-use Rattle.modcholesky.specs.Calls.{Call, call, factor-call, numbered-call}
-use Rattle.modcholesky.specs.Factor.{gmw81, se}
-use Rattle.modcholesky.specs.declared.decomposition.Decomposition.{Decomposition}
-use Rattle.modcholesky.specs.declared.decomposition.Mark.the-variants.{Never}
-use Rattle.modcholesky.specs.declared.phase_one.Variant.the-variants.{Se90, Se99}
+use Rattle.methods.specs.Calls.{Call, call, factor-call, numbered-call}
+use Rattle.methods.specs.Factor.{gmw81, se}
+use Rattle.methods.specs.declared.decomposition.Decomposition.{Decomposition}
+use Rattle.methods.specs.declared.decomposition.Mark.the-variants.{Never}
+use Rattle.methods.specs.declared.schnabel_eskow.Variant.the-variants.{Se90, Se99}
 use borrow.Author.Needs.{needs}
 use Rattle.modcholesky.proofs.calls.factor.Statement.{statement}
 use Rattle.modcholesky.proofs.calls.factor.Tie as tie

@@ -6,11 +6,11 @@ use Prim.Native.Nat.{ℕ, _*_}
 use lib.Ieee.{Float}
 use Rattle.arithmetic.specs.declared.outcome.Outcome.{Outcome}
 use Rattle.matrix.specs.Matrix.{zeros}
-use Rattle.modcholesky.specs.Marks.{marked}
-use Rattle.modcholesky.specs.Result.{identity, outcomeOf, handBack}
-use Rattle.modcholesky.specs.Calls.{call, answered}
-use Rattle.modcholesky.specs.declared.decomposition.Mark.{Mark}
-use Rattle.modcholesky.specs.declared.decomposition.Mark.the-variants.{Never, Step}
+use Rattle.methods.specs.Marks.{marked}
+use Rattle.methods.specs.Result.{identity, outcomeOf, handBack}
+use Rattle.methods.specs.Calls.{call, answered}
+use Rattle.methods.specs.declared.decomposition.Mark.{Mark}
+use Rattle.methods.specs.declared.decomposition.Mark.the-variants.{Never, Step}
 use borrow.Author.Needs.{needs}
 use Rattle.modcholesky.proofs.calls.hand_back.Statement.{statement}
 use Rattle.modcholesky.proofs.calls.hand_back.Tie as tie

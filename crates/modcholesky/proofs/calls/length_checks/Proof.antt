@@ -4,7 +4,7 @@ use lib.ListN.{length}
 use Rattle.matrix.specs.Matrix.{square-small}
 use Rattle.matrix.specs.Checks.{check-size, check-matrix, check-buffer}
 use Rattle.matrix.proofs.CheckLaws.{Accepted, accepted, refused, goes-on, size-accepted}
-use Rattle.modcholesky.specs.Calls.{length-checks}
+use Rattle.methods.specs.Calls.{length-checks}
 use borrow.Author.Needs.{needs}
 use Rattle.modcholesky.proofs.calls.length_checks.Statement.{statement}
 use Rattle.modcholesky.proofs.calls.length_checks.Tie as tie

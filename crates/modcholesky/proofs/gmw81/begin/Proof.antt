@@ -5,10 +5,10 @@ use borrow.Author.Needs.{needs}
 use lib.ListN.{length}
 use lib.Ieee.{Float}
 use Rattle.matrix.specs.Matrix.{zeros}
-use Rattle.modcholesky.specs.Gmw81.{state, start}
-use Rattle.modcholesky.specs.Result.{identity}
-use Rattle.modcholesky.specs.declared.decomposition.Mark.the-variants.{Never}
-use Rattle.modcholesky.proofs.GmwLaws.{started-is}
+use Rattle.methods.specs.Gmw81.{state, start}
+use Rattle.methods.specs.Result.{identity}
+use Rattle.methods.specs.declared.decomposition.Mark.the-variants.{Never}
+use Rattle.methods.proofs.GmwLaws.{started-is}
 use Rattle.modcholesky.proofs.gmw81.begin.Statement.{statement}
 use Rattle.modcholesky.proofs.gmw81.begin.Tie as tie
 

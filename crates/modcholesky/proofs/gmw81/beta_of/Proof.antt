@@ -3,7 +3,7 @@ use native.Mathlib.Omega.{arith}
 use borrow.Author.Needs.{needs}
 use lib.Dec.{le→leb}
 use lib.Ieee.{inFloat}
-use Rattle.modcholesky.specs.Gmw81.{betaOf, count}
+use Rattle.methods.specs.Gmw81.{betaOf, count}
 use Rattle.modcholesky.proofs.gmw81.beta_of.Statement.{statement}
 use Rattle.modcholesky.proofs.gmw81.beta_of.Tie as tie
 

@@ -5,8 +5,8 @@ use lib.ListN.{length}
 use Rattle.arithmetic.specs.Double.{_⊖_}
 use Rattle.arithmetic.specs.Loop.{range, loop-start, loop-turn, loop-end}
 use Rattle.matrix.specs.Matrix.{at, put}
-use Rattle.modcholesky.specs.Gmw81.{dot}
-use Rattle.modcholesky.proofs.GmwLaws.{column-is}
+use Rattle.methods.specs.Gmw81.{dot}
+use Rattle.methods.proofs.GmwLaws.{column-is}
 use Rattle.modcholesky.proofs.gmw81.column.Statement.{statement}
 use Rattle.modcholesky.proofs.gmw81.column.Tie as tie
 

@@ -1,5 +1,5 @@
 use borrow.Author.Needs.{needs}
-use Rattle.modcholesky.specs.Gmw81.{dOf}
+use Rattle.methods.specs.Gmw81.{dOf}
 use Rattle.modcholesky.proofs.gmw81.d_of.Statement.{statement}
 use Rattle.modcholesky.proofs.gmw81.d_of.Tie as tie
 

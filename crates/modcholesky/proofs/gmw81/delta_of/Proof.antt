@@ -1,5 +1,5 @@
 use borrow.Author.Needs.{needs}
-use Rattle.modcholesky.specs.Gmw81.{deltaOf}
+use Rattle.methods.specs.Gmw81.{deltaOf}
 use Rattle.modcholesky.proofs.gmw81.delta_of.Statement.{statement}
 use Rattle.modcholesky.proofs.gmw81.delta_of.Tie as tie
 

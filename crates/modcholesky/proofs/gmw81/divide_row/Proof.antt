@@ -6,7 +6,7 @@ use lib.Ieee.{nan}
 use Rattle.arithmetic.specs.Double.{_⊘_}
 use Rattle.arithmetic.specs.Loop.{range, loop-start, loop-turn, loop-end}
 use Rattle.matrix.specs.Matrix.{at, put}
-use Rattle.modcholesky.proofs.GmwLaws.{divided-is}
+use Rattle.methods.proofs.GmwLaws.{divided-is}
 use Rattle.modcholesky.proofs.gmw81.divide_row.Statement.{statement}
 use Rattle.modcholesky.proofs.gmw81.divide_row.Tie as tie
 

@@ -4,7 +4,7 @@ use borrow.Author.Needs.{needs}
 use Rattle.arithmetic.specs.Double.{_⊕_, _⊗_}
 use Rattle.arithmetic.specs.Loop.{range, loop-start, loop-turn, loop-end}
 use Rattle.matrix.specs.Matrix.{at}
-use Rattle.modcholesky.proofs.GmwLaws.{dot-is}
+use Rattle.methods.proofs.GmwLaws.{dot-is}
 use Rattle.modcholesky.proofs.gmw81.dot.Statement.{statement}
 use Rattle.modcholesky.proofs.gmw81.dot.Tie as tie
 

@@ -4,12 +4,12 @@ use mathlib.Core.List.{List}
 use Prim.Native.Nat.{ℕ}
 use borrow.Author.Needs.{needs}
 use lib.Ieee.{Float}
-use Rattle.modcholesky.specs.Gmw81.{state, doutOf, unitLower, product, scaledFinite, finish, Finished}
-use Rattle.modcholesky.specs.Marks.{mark, marked}
-use Rattle.modcholesky.specs.Statements.{reorder}
-use Rattle.modcholesky.specs.declared.decomposition.Mark.{Mark}
-use Rattle.modcholesky.specs.declared.gmw81.Marks.{Marks}
-use Rattle.modcholesky.proofs.GmwLaws.{finish-stays, finish-goes}
+use Rattle.methods.specs.Gmw81.{state, doutOf, unitLower, product, scaledFinite, finish, Finished}
+use Rattle.methods.specs.Marks.{mark, marked}
+use Rattle.methods.specs.Statements.{reorder}
+use Rattle.methods.specs.declared.decomposition.Mark.{Mark}
+use Rattle.methods.specs.declared.gmw81.Marks.{Marks}
+use Rattle.methods.proofs.GmwLaws.{finish-stays, finish-goes}
 use Rattle.modcholesky.proofs.gmw81.finish.Statement.{statement}
 use Rattle.modcholesky.proofs.gmw81.finish.Tie as tie
 

@@ -1,6 +1,6 @@
 use borrow.Author.Needs.{needs}
 use borrow.Author.Tests.{eq-eqb, ne-eqb}
-use Rattle.modcholesky.specs.Gmw81.{foldOffDiagonal}
+use Rattle.methods.specs.Gmw81.{foldOffDiagonal}
 use Rattle.modcholesky.proofs.gmw81.fold_off_diagonal.Statement.{statement}
 use Rattle.modcholesky.proofs.gmw81.fold_off_diagonal.Tie as tie
 

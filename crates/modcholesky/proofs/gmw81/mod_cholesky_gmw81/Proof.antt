@@ -2,10 +2,10 @@ use native.Mathlib.Omega.{arith}
 use borrow.Author.Needs.{needs}
 use lib.ListN.{length}
 use Rattle.matrix.proofs.CheckLaws.{Accepted, accepted, not-accepted}
-use Rattle.modcholesky.specs.Calls.{factor-checks}
-use Rattle.modcholesky.specs.Factor.{gmw81}
-use Rattle.modcholesky.proofs.Answers.{refuses, answers-gmw81}
-use Rattle.modcholesky.proofs.CallLaws.{Lengths, factor-accepted}
+use Rattle.methods.specs.Calls.{factor-checks}
+use Rattle.methods.specs.Factor.{gmw81}
+use Rattle.methods.proofs.Answers.{refuses, answers-gmw81}
+use Rattle.methods.proofs.CallLaws.{Lengths, factor-accepted}
 use Rattle.modcholesky.proofs.gmw81.mod_cholesky_gmw81.Statement.{statement}
 use Rattle.modcholesky.proofs.gmw81.mod_cholesky_gmw81.Tie as tie
 

@@ -2,8 +2,8 @@ use mathlib.Core.Path.{_≡_, sym, _∙_}
 use Prim.Native.Nat.{_-_, _≤_, zero-le}
 use borrow.Author.Needs.{needs}
 use Rattle.arithmetic.specs.Loop.{range, loop-start, loop-turn, loop-end}
-use Rattle.modcholesky.specs.Gmw81.{foldRow}
-use Rattle.modcholesky.proofs.GmwLaws.{off-diagonal-is}
+use Rattle.methods.specs.Gmw81.{foldRow}
+use Rattle.methods.proofs.GmwLaws.{off-diagonal-is}
 use Rattle.modcholesky.proofs.gmw81.off_diagonal_max.Statement.{statement}
 use Rattle.modcholesky.proofs.gmw81.off_diagonal_max.Tie as tie
 

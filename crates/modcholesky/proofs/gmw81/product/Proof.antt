@@ -4,7 +4,7 @@ use native.Mathlib.Omega.{arith}
 use borrow.Author.Needs.{needs}
 use lib.ListN.{length}
 use Rattle.matrix.specs.Matrix.{at}
-use Rattle.modcholesky.proofs.Scaled.{rows-more, entryOf, product-is}
+use Rattle.methods.proofs.Scaled.{rows-more, entryOf, product-is}
 use Rattle.modcholesky.proofs.gmw81.product.Statement.{statement}
 use Rattle.modcholesky.proofs.gmw81.product.Tie as tie
 

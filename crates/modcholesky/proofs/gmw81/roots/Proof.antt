@@ -6,7 +6,7 @@ use lib.ListN.{length, getD, length-set}
 use lib.Seq.{getD-set-other}
 use lib.Ieee.{nan}
 use Rattle.arithmetic.specs.Sqrt.{sqrt}
-use Rattle.modcholesky.proofs.StatementLaws.{Written, written-more, written-is}
+use Rattle.methods.proofs.StatementLaws.{Written, written-more, written-is}
 use Rattle.modcholesky.proofs.gmw81.roots.Statement.{statement}
 use Rattle.modcholesky.proofs.gmw81.roots.Tie as tie
 

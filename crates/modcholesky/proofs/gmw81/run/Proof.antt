@@ -6,14 +6,14 @@ use borrow.Author.Needs.{needs}
 use lib.Ieee.{Float}
 use Rattle.arithmetic.specs.Loop.{range}
 use Rattle.matrix.specs.Plain.{AllBelow}
-use Rattle.modcholesky.specs.Calls.{Call, answered}
-use Rattle.modcholesky.specs.Gmw81.{Run, state, start, step, finish, Finished, run, mod-cholesky-gmw81, offDiagonalMax, deltaOf, betaOf}
-use Rattle.modcholesky.specs.Result.{handBack}
-use Rattle.modcholesky.specs.Statements.{diagonalMax}
-use Rattle.modcholesky.specs.declared.decomposition.Mark.the-variants.{Never}
-use Rattle.modcholesky.specs.declared.gmw81.Marks.{Marks}
-use Rattle.modcholesky.proofs.GmwLaws.{finish-order, steps-rows}
-use Rattle.modcholesky.proofs.Pivots.{Rows}
+use Rattle.methods.specs.Calls.{Call, answered}
+use Rattle.methods.specs.Gmw81.{Run, state, start, step, finish, Finished, run, mod-cholesky-gmw81, offDiagonalMax, deltaOf, betaOf}
+use Rattle.methods.specs.Result.{handBack}
+use Rattle.methods.specs.Statements.{diagonalMax}
+use Rattle.methods.specs.declared.decomposition.Mark.the-variants.{Never}
+use Rattle.methods.specs.declared.gmw81.Marks.{Marks}
+use Rattle.methods.proofs.GmwLaws.{finish-order, steps-rows}
+use Rattle.methods.proofs.Pivots.{Rows}
 use Rattle.modcholesky.proofs.gmw81.run.Statement.{statement}
 use Rattle.modcholesky.proofs.gmw81.run.Tie as tie
 

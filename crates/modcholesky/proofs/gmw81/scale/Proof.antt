@@ -12,9 +12,9 @@ use Rattle.arithmetic.specs.Loop.{range}
 use Rattle.arithmetic.specs.Sqrt.{sqrt}
 use Rattle.matrix.specs.Matrix.{put}
 use Rattle.matrix.specs.Table.{table}
-use Rattle.modcholesky.specs.Gmw81.{doutOf, unitLower, product, scaledFinite}
-use Rattle.modcholesky.specs.Statements.{lowerTriangle, all}
-use Rattle.modcholesky.proofs.Scaled.{scaled-finite-is}
+use Rattle.methods.specs.Gmw81.{doutOf, unitLower, product, scaledFinite}
+use Rattle.methods.specs.Statements.{lowerTriangle, all}
+use Rattle.methods.proofs.Scaled.{scaled-finite-is}
 use Rattle.modcholesky.proofs.gmw81.scale.Statement.{statement}
 use Rattle.modcholesky.proofs.gmw81.scale.Tie as tie
 

@@ -4,7 +4,7 @@ use borrow.Author.Needs.{needs}
 use lib.ListN.{length}
 use Rattle.arithmetic.specs.Loop.{range, loop-start, loop-turn, loop-end}
 use Rattle.matrix.specs.Matrix.{at, put}
-use Rattle.modcholesky.proofs.GmwLaws.{start-is}
+use Rattle.methods.proofs.GmwLaws.{start-is}
 use Rattle.modcholesky.proofs.gmw81.start_diagonal.Statement.{statement}
 use Rattle.modcholesky.proofs.gmw81.start_diagonal.Tie as tie
 

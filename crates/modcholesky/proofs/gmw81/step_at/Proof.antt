@@ -5,13 +5,13 @@ use Prim.Native.Nat.{ℕ}
 use borrow.Author.Needs.{needs}
 use lib.ListN.{set}
 use lib.Ieee.{Float}
-use Rattle.modcholesky.specs.Gmw81.{Stepped, state, storedFinite, stepAt}
-use Rattle.modcholesky.specs.Marks.{mark}
-use Rattle.modcholesky.specs.Statements.{pivotList}
-use Rattle.modcholesky.specs.declared.decomposition.Mark.{Mark}
-use Rattle.modcholesky.specs.declared.gmw81.Marks.{Marks}
-use Rattle.modcholesky.specs.declared.gmw81.StepValues.{StepValues}
-use Rattle.modcholesky.proofs.GmwLaws.{step-at-is}
+use Rattle.methods.specs.Gmw81.{Stepped, state, storedFinite, stepAt}
+use Rattle.methods.specs.Marks.{mark}
+use Rattle.methods.specs.Statements.{pivotList}
+use Rattle.methods.specs.declared.decomposition.Mark.{Mark}
+use Rattle.methods.specs.declared.gmw81.Marks.{Marks}
+use Rattle.methods.specs.declared.gmw81.StepValues.{StepValues}
+use Rattle.methods.proofs.GmwLaws.{step-at-is}
 use Rattle.modcholesky.proofs.gmw81.step_at.Statement.{statement}
 use Rattle.modcholesky.proofs.gmw81.step_at.Tie as tie
 

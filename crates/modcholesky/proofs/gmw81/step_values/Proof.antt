@@ -6,8 +6,8 @@ use borrow.Author.Needs.{needs}
 use lib.Ieee.{Float}
 use Rattle.arithmetic.specs.Double.{_⊖_}
 use Rattle.matrix.specs.Matrix.{at}
-use Rattle.modcholesky.specs.Gmw81.{Stepped, divideRow, column, thetaOf, dOf, updateDiagonal}
-use Rattle.modcholesky.specs.Statements.{pivotMatrix}
+use Rattle.methods.specs.Gmw81.{Stepped, divideRow, column, thetaOf, dOf, updateDiagonal}
+use Rattle.methods.specs.Statements.{pivotMatrix}
 use Rattle.modcholesky.proofs.gmw81.step_values.Statement.{statement}
 use Rattle.modcholesky.proofs.gmw81.step_values.Tie as tie
 

@@ -1,5 +1,5 @@
 use borrow.Author.Needs.{needs}
-use Rattle.modcholesky.specs.Gmw81.{storedFinite}
+use Rattle.methods.specs.Gmw81.{storedFinite}
 use Rattle.modcholesky.proofs.gmw81.stored_finite.Statement.{statement}
 use Rattle.modcholesky.proofs.gmw81.stored_finite.Tie as tie
 

@@ -3,8 +3,8 @@ use Prim.Native.Nat.{_-_, _≤_}
 use borrow.Author.Needs.{needs}
 use Rattle.arithmetic.specs.Loop.{range, loop-start, loop-turn, loop-end}
 use Rattle.matrix.specs.Matrix.{at}
-use Rattle.modcholesky.specs.Statements.{largerMagnitude}
-use Rattle.modcholesky.proofs.GmwLaws.{theta-is}
+use Rattle.methods.specs.Statements.{largerMagnitude}
+use Rattle.methods.proofs.GmwLaws.{theta-is}
 use Rattle.modcholesky.proofs.gmw81.theta_of.Statement.{statement}
 use Rattle.modcholesky.proofs.gmw81.theta_of.Tie as tie
 

@@ -5,7 +5,7 @@ use lib.ListN.{length}
 use Rattle.arithmetic.specs.Double.{_⊖_, _⊘_, square}
 use Rattle.arithmetic.specs.Loop.{range, loop-start, loop-turn, loop-end}
 use Rattle.matrix.specs.Matrix.{at, put}
-use Rattle.modcholesky.proofs.GmwLaws.{diagonal-is}
+use Rattle.methods.proofs.GmwLaws.{diagonal-is}
 use Rattle.modcholesky.proofs.gmw81.update_diagonal.Statement.{statement}
 use Rattle.modcholesky.proofs.gmw81.update_diagonal.Tie as tie
 

@@ -1,0 +1,321 @@
+-- SE90 and SE99, statement by statement beside src/se90.rs and src/se99.rs. They share all but the tests of phase one, the least
+-- amount and the last amount.
+use mathlib.Core.List.{List, [], _∷_}
+use mathlib.Core.Bool.{Bool, true, false, cond, not, _&&_, _||_}
+use Prim.Native.Nat.{ℕ, _+_, _-_, _*_}
+use lib.ListN.{getD, set, drop}
+use lib.Dec.{eqb, leb, ltb}
+use lib.Ieee.{Float, nan, inf, lt, neg}
+use lib.Ieee.Scale.{finite}
+use Rattle.arithmetic.specs.Double.{plus-zero, one, epsilon, _⊕_, _⊖_, _⊗_, _⊘_, square, abs, max}
+use Rattle.arithmetic.specs.Loop.{range}
+use Rattle.arithmetic.specs.Sqrt.{sqrt}
+use Rattle.matrix.specs.Matrix.{at, put, zeros}
+use Rattle.matrix.specs.Table.{table}
+use Rattle.matrix.specs.Search.{largest}
+use Rattle.matrix.specs.Eigenvalues.{eigenvaluesOf}
+use Rattle.matrix.specs.declared.utils.Eigen.{Eigen}
+use Rattle.methods.specs.Marks.{mark, marked}
+use Rattle.methods.specs.Statements.{diagonalMax, diagonalFrom, pivotMatrix, pivotList, eliminate, lowerTriangle, reorder, all, blockFinite}
+use Rattle.methods.specs.Result.{Result, identity, handBack}
+use Rattle.methods.specs.declared.schnabel_eskow.Progress.{Progress}
+use Rattle.methods.specs.declared.schnabel_eskow.Tolerances.{Tolerances}
+use Rattle.methods.specs.declared.schnabel_eskow.Variant.{Variant}
+use Rattle.methods.specs.declared.schnabel_eskow.Variant.the-variants.{Se90, Se99}
+use Rattle.methods.specs.declared.schnabel_eskow.Last.{Last}
+use Rattle.methods.specs.declared.schnabel_eskow.Last.the-variants.{One, Pair}
+use Rattle.methods.specs.declared.decomposition.Mark.{Mark}
+use Rattle.methods.specs.declared.decomposition.Mark.the-variants.{Never, Step}
+
+pub record Run : Type 0 where
+  pub l : List Float
+  pub e : List Float
+  pub g : List Float
+  pub p : List ℕ
+  pub delta-prev : Float
+  pub tied : Mark
+  pub phase2 : Mark
+  pub refused : Mark
+
+-- the variables that a step's code holds: the lists, and what stands beside them
+abbrev pub state : List Float → List Float → List Float → List ℕ → Progress → Run
+state l e g p r = record { l = l; e = e; g = g; p = p; delta-prev = r .«delta_prev»; tied = r .tied; phase2 = r .phase2; refused = r .refused }
+
+unfoldable pub start : ℕ → List Float → Run
+unfolding table
+start n a = record { l = a; e = zeros n; g = zeros n; p = identity n; delta-prev = plus-zero; tied = Never; phase2 = Never; refused = Never }
+
+-- ---- phase one
+
+-- l[(i, i)] - l[(i, j)].powi(2) / l[(j, j)], the smallest of them: |acc, i| if nv < acc { nv } else { acc }, from infinity
+unfoldable pub foldNext : ℕ → ℕ → List Float → ℕ → Float → Float
+unfolding lt
+foldNext n j l i acc =
+    let nv = at n l i i ⊖ square (at n l i j) ⊘ at n l j j in
+    cond (lt nv acc) nv acc
+
+unfoldable pub tmpOf : ℕ → ℕ → List Float → Float
+unfolding range foldNext
+tmpOf n j l = range (j + 1) n (foldNext n j l) (inf false)
+
+-- SE99's aii_max and aii_min over l.diag().slice(s![j..])
+unfoldable pub aiiMax : ℕ → ℕ → List Float → Float
+unfolding range lt
+aiiMax n j l = range j n (λ i acc. cond (lt acc (at n l i i)) (at n l i i) acc) (inf true)
+
+unfoldable pub aiiMin : ℕ → ℕ → List Float → Float
+unfolding range lt
+aiiMin n j l = range j n (λ i acc. cond (lt (at n l i i) acc) (at n l i i) acc) (inf false)
+
+-- the test before the search: SE99's alone
+unfoldable pub leavesBefore : Variant → Tolerances → Float → ℕ → ℕ → List Float → Bool
+unfolding aiiMax aiiMin neg
+leavesBefore Se90 t gamma n j l = false
+leavesBefore Se99 t gamma n j l =
+    let aii-max = aiiMax n j l in
+    lt aii-max (t .«tau_bar» ⊗ gamma) || lt (aiiMin n j l) (neg (t .mu) ⊗ aii-max)
+
+-- the test after search and swap, on tmp
+unfoldable pub leavesAfter : Variant → Tolerances → Float → Float → Bool
+unfolding lt neg
+leavesAfter Se90 t gamma tmp = lt tmp (t .tau ⊗ gamma)
+leavesAfter Se99 t gamma tmp = lt tmp (neg (t .mu) ⊗ gamma)
+
+-- the run leaves phase one at step j
+abbrev pub leave : ℕ → Run → Run
+leave j s = record { l = s .l; e = s .e; g = s .g; p = s .p; delta-prev = s .delta-prev; tied = s .tied; phase2 = mark (s .phase2) true j; refused = s .refused }
+
+-- the pivot max_idx after j goes to j
+unfoldable pub pivot : ℕ → ℕ → ℕ → Bool → Run → Run
+unfolding pivotMatrix pivotList
+pivot n j max-idx tie s = record {
+  l = pivotMatrix n j max-idx (s .l);
+  e = s .e;
+  g = s .g;
+  p = pivotList 0 j max-idx (s .p);
+  delta-prev = s .delta-prev;
+  tied = mark (s .tied) tie j;
+  phase2 = s .phase2;
+  refused = s .refused;
+}
+
+-- the jth iteration of the factorization: it stores rows and columns j to n - 1
+unfoldable pub factorize : ℕ → ℕ → Run → Run
+unfolding eliminate blockFinite
+factorize n j s =
+    let l = eliminate n j (s .l) in
+    record { l = l; e = s .e; g = s .g; p = s .p; delta-prev = s .delta-prev; tied = s .tied; phase2 = s .phase2; refused = mark (s .refused) (not (blockFinite n j l)) j }
+
+-- the step after its first test, with the pivot and whether its search was tied
+unfoldable pub stepAt : Variant → Tolerances → Float → ℕ → ℕ → ℕ → Bool → Run → Run
+unfolding pivot tmpOf leavesAfter factorize
+stepAt v t gamma n j max-idx tie s =
+    let s₁ = pivot n j max-idx tie s in
+    let next = factorize n j s₁ in
+    cond (leavesAfter v t gamma (tmpOf n j (s₁ .l))) (leave j s₁) next
+
+unfoldable pub phaseOneStep : Variant → Tolerances → Float → ℕ → ℕ → Run → Run
+unfolding leavesBefore largest diagonalFrom stepAt
+phaseOneStep v t gamma n j s =
+    let f = largest false (diagonalFrom n (s .l) j) in
+    let next = stepAt v t gamma n j (f .index) (f .tied) s in
+    cond (leavesBefore v t gamma n j (s .l)) (leave j s) next
+
+-- nothing once phase one is left or the run refused
+unfoldable pub inPhaseOne : Variant → Tolerances → Float → ℕ → ℕ → Run → Run
+unfolding phaseOneStep
+inPhaseOne v t gamma n j s =
+    let next = phaseOneStep v t gamma n j s in
+    cond (marked (s .phase2) || marked (s .refused)) s next
+
+unfoldable pub phaseOne : Variant → Tolerances → Float → ℕ → Run → Run
+unfolding range inPhaseOne
+phaseOne v t gamma n s = range 0 n (inPhaseOne v t gamma n) s
+
+-- ---- phase two
+
+-- l.slice(..).map(|x| x.abs()).sum()
+unfoldable pub rowSum : ℕ → List Float → ℕ → ℕ → ℕ → Float
+unfolding range abs
+rowSum n l i a b = range a b (λ t sum. sum ⊕ abs (at n l i t)) plus-zero
+
+unfoldable pub columnSum : ℕ → List Float → ℕ → ℕ → ℕ → Float
+unfolding range abs
+columnSum n l i a b = range a b (λ t sum. sum ⊕ abs (at n l t i)) plus-zero
+
+-- g[i] = l[(i, i)] - l.slice(s![i, k..i]) .. - l.slice(s![(i + 1).., i]) ..
+unfoldable pub bounds : ℕ → ℕ → List Float → List Float → List Float
+unfolding range rowSum columnSum
+bounds n k l g = range k n (λ i h. set h i (at n l i i ⊖ rowSum n l i k i ⊖ columnSum n l i (i + 1) n)) g
+
+-- tau * gamma in SE90, tau_bar * gamma in SE99
+unfoldable pub leastAmount : Variant → Tolerances → Float → Float
+leastAmount Se90 t gamma = t .tau ⊗ gamma
+leastAmount Se99 t gamma = t .«tau_bar» ⊗ gamma
+
+-- 0.0.max(delta_prev).max(-l[(j, j)] + normj.max(..))
+unfoldable pub amount : Variant → Tolerances → Float → Float → Float → Float → Float
+unfolding leastAmount neg
+amount v t gamma delta-prev ljj normj = max (max plus-zero delta-prev) (neg ljj ⊕ max normj (leastAmount v t gamma))
+
+-- if e[j] > 0.0
+abbrev pub added : Float → Float → Float
+added x e = cond (lt plus-zero e) (x ⊕ e) x
+
+-- if (l[(j, j)] - normj).abs() > 1.0 * EPSILON { let tmp = 1.0 - normj / l[(j, j)]; for i in (j + 1)..n { g[i] += l[(i, j)].abs() * tmp; } }
+unfoldable pub updateBounds : ℕ → ℕ → List Float → Float → List Float → List Float
+unfolding range abs lt
+updateBounds n j l normj g =
+    let tmp = one ⊖ normj ⊘ at n l j j in
+    let next = range (j + 1) n (λ i h. set h i (getD h i nan ⊕ abs (at n l i j) ⊗ tmp)) g in
+    cond (lt (one ⊗ epsilon) (abs (at n l j j ⊖ normj))) next g
+
+-- the jth step of phase two with the pivot max_idx after j. It stores normj, e[j], the sum on the diagonal, g, and rows and columns j to n - 1.
+unfoldable pub phaseTwoStepAt : Variant → Tolerances → Float → ℕ → ℕ → ℕ → Run → Run
+unfolding pivotMatrix pivotList columnSum amount updateBounds eliminate all blockFinite lt
+phaseTwoStepAt v t gamma n j max-idx s =
+    let l₁ = pivotMatrix n j max-idx (s .l) in
+    let g₁ = pivotList nan j max-idx (s .g) in
+    let normj = columnSum n l₁ j (j + 1) n in
+    let ej = amount v t gamma (s .delta-prev) (at n l₁ j j) normj in
+    let l₂ = put n l₁ j j (added (at n l₁ j j) ej) in
+    let g₂ = updateBounds n j l₂ normj g₁ in
+    let l₃ = eliminate n j l₂ in
+    record {
+      l = l₃;
+      e = set (s .e) j ej;
+      g = g₂;
+      p = pivotList 0 j max-idx (s .p);
+      delta-prev = cond (lt plus-zero ej) ej (s .delta-prev);
+      tied = s .tied;
+      phase2 = s .phase2;
+      refused = mark (s .refused) (not (finite normj && finite ej && finite (at n l₂ j j) && all (j + 1) n (λ i. finite (getD g₂ i nan)) && blockFinite n j l₃)) j;
+    }
+
+-- index_of_largest(&g.slice(s![j..])); nothing once the run is refused
+unfoldable pub phaseTwoStep : Variant → Tolerances → Float → ℕ → ℕ → Run → Run
+unfolding largest phaseTwoStepAt
+phaseTwoStep v t gamma n j s =
+    let next = phaseTwoStepAt v t gamma n j (largest false (drop j (s .g)) .index) s in
+    cond (marked (s .refused)) s next
+
+-- ---- the last block
+
+-- SE90: -llo + tau * gamma.max(1.0 / (1.0 - tau) * (lhi - llo)); SE99: -llo + (tau_bar * gamma).max(tau * (lhi - llo) / (1.0 - tau))
+unfoldable pub lastAmount : Variant → Tolerances → Float → Eigen → Float
+unfolding neg
+lastAmount Se90 t gamma x = neg (x .lo) ⊕ t .tau ⊗ max gamma (one ⊘ (one ⊖ t .tau) ⊗ (x .hi ⊖ x .lo))
+lastAmount Se99 t gamma x = neg (x .lo) ⊕ max (t .«tau_bar» ⊗ gamma) (t .tau ⊗ (x .hi ⊖ x .lo) ⊘ (one ⊖ t .tau))
+
+-- two rows remain: two eigenvalues with a shared amount, e[n - 2] = 0.0.max(..).max(delta_prev)
+unfoldable pub pairOf : Variant → Tolerances → Float → ℕ → List Float → Float → Last
+unfolding eigenvaluesOf lastAmount
+pairOf v t gamma n l delta-prev =
+    let a = n - 2 in
+    let b = n - 1 in
+    let x = eigenvaluesOf (at n l a a) (at n l a b) (at n l b a) (at n l b b) in
+    Pair x (max (max plus-zero (lastAmount v t gamma x)) delta-prev)
+
+-- SE99 with one row left: e[j] = -l[(j, j)] + (tau_bar * gamma).max(tau * (-l[(j, j)]) / (1.0 - tau))
+unfoldable pub oneOf : Tolerances → Float → Float → Last
+unfolding neg
+oneOf t gamma ljj = One (neg ljj ⊕ max (t .«tau_bar» ⊗ gamma) (t .tau ⊗ neg ljj ⊘ (one ⊖ t .tau)))
+
+-- the pair's amount is added to both rows, and the block is factorized: step n - 2
+unfoldable pub addPair : ℕ → Eigen → Float → Run → Run
+unfolding lt sqrt
+addPair n x ea s =
+    let a = n - 2 in
+    let b = n - 1 in
+    let l₁ = put n (s .l) a a (added (at n (s .l) a a) ea) in
+    let l₂ = put n l₁ b b (added (at n l₁ b b) ea) in
+    let l₃ = put n l₂ a a (sqrt (at n l₂ a a)) in
+    let l₄ = put n l₃ b a (at n l₃ b a ⊘ at n l₃ a a) in
+    let l₅ = put n l₄ b b (sqrt (at n l₄ b b ⊖ square (at n l₄ b a))) in
+    record {
+      l = l₅;
+      e = set (set (s .e) a ea) b ea;
+      g = s .g;
+      p = s .p;
+      delta-prev = s .delta-prev;
+      tied = s .tied;
+      phase2 = s .phase2;
+      refused = mark (s .refused) (not (finite (x .hi) && finite (x .lo) && finite ea && finite (at n l₂ a a) && finite (at n l₂ b b) && finite (at n l₃ a a) && finite (at n l₄ b a) && finite (at n l₅ b b))) a;
+    }
+
+-- the one amount is added to the last row, and its root taken: step n - 1
+unfoldable pub addOne : ℕ → Float → Run → Run
+unfolding sqrt
+addOne n ej s =
+    let j = n - 1 in
+    let l₁ = put n (s .l) j j (at n (s .l) j j ⊕ ej) in
+    let l₂ = put n l₁ j j (sqrt (at n l₁ j j)) in
+    record {
+      l = l₂;
+      e = set (s .e) j ej;
+      g = s .g;
+      p = s .p;
+      delta-prev = s .delta-prev;
+      tied = s .tied;
+      phase2 = s .phase2;
+      refused = mark (s .refused) (not (finite ej && finite (at n l₁ j j) && finite (at n l₂ j j))) j;
+    }
+
+-- what phase two adds last, by its cases
+abbrev pub addLast : ℕ → Last → Run → Run
+addLast n (One ej) s = addOne n ej s
+addLast n (Pair x ea) s = addPair n x ea s
+
+-- how many rows it needs
+abbrev pub rowsOf : Last → ℕ
+rowsOf (One ej) = 1
+rowsOf (Pair x ea) = 2
+
+unfoldable pub lastPair : Variant → Tolerances → Float → ℕ → Run → Run
+unfolding pairOf addPair
+lastPair v t gamma n s = addLast n (pairOf v t gamma n (s .l) (s .delta-prev)) s
+
+unfoldable pub lastOne : Tolerances → Float → ℕ → Run → Run
+unfolding oneOf addOne
+lastOne t gamma n s = addLast n (oneOf t gamma (at n (s .l) (n - 1) (n - 1))) s
+
+-- phase two from step k: g counts as step k
+unfoldable pub begin : ℕ → ℕ → Run → Run
+unfolding bounds all
+begin n k s =
+    let g = bounds n k (s .l) (s .g) in
+    record { l = s .l; e = s .e; g = g; p = s .p; delta-prev = s .delta-prev; tied = s .tied; phase2 = s .phase2; refused = mark (s .refused) (not (all k n (λ i. finite (getD g i nan)))) k }
+
+unfoldable pub pairs : Variant → Tolerances → Float → ℕ → ℕ → Run → Run
+unfolding range begin phaseTwoStep lastPair
+pairs v t gamma n k s =
+    let s₁ = range k (n - 2) (phaseTwoStep v t gamma n) (begin n k s) in
+    let next = lastPair v t gamma n s₁ in
+    cond (marked (s₁ .refused)) s₁ next
+
+-- one row is left in SE99 where phase one is left at n - 1
+unfoldable pub phaseTwoFrom : Variant → Tolerances → Float → ℕ → ℕ → Run → Run
+unfolding pairs lastOne
+phaseTwoFrom v t gamma n k s =
+    let one-left = lastOne t gamma n s in
+    let more = pairs v t gamma n k s in
+    cond (eqb k (n - 1)) one-left more
+
+unfoldable pub phaseTwoAfter : Variant → Tolerances → Float → ℕ → Mark → Run → Run
+unfolding phaseTwoFrom
+phaseTwoAfter v t gamma n Never s = s
+phaseTwoAfter v t gamma n (Step k) s = phaseTwoFrom v t gamma n k s
+
+abbrev pub phaseTwo : Variant → Tolerances → Float → ℕ → Run → Run
+phaseTwo v t gamma n s = phaseTwoAfter v t gamma n (s .phase2) s
+
+-- ---- a whole run
+unfoldable pub run : Variant → Tolerances → ℕ → List Float → Run
+unfolding start phaseOne phaseTwoAfter diagonalMax
+run v t n a = let gamma = diagonalMax n a in phaseTwo v t gamma n (phaseOne v t gamma n (start n a))
+
+unfoldable pub mod-cholesky-se : Variant → Tolerances → ℕ → List Float → Result
+unfolding run lowerTriangle reorder
+mod-cholesky-se v t n a =
+    let s = run v t n a in
+    handBack n (s .tied) (s .phase2) (s .refused) (lowerTriangle n (s .l)) (reorder n (s .p) (s .e)) (s .p)

@@ -1,0 +1,44 @@
+// What a factorization hands back beside the factor, the amounts and the pivot order.
+ghost use mathlib.Core.Path.{_≡_};
+ghost use Rattle.methods.specs.Marks.{mark, marked};
+use arithmetic::outcome::Outcome;
+
+// A step, or none: the first one stays.
+pub enum Mark {
+    Never,
+    Step(usize),
+}
+
+impl Mark {
+    pub fn mark(self, b: bool, j: usize) -> Mark
+        ensures { λ r. ⌜ r ≡ mark self b j ⌝ }
+    {
+        match self {
+            Mark::Never => {
+                if b {
+                    return Mark::Step(j);
+                }
+                Mark::Never
+            }
+            Mark::Step(k) => Mark::Step(k),
+        }
+    }
+
+    pub fn marked(self) -> bool
+        ensures { λ r. ⌜ r ≡ marked self ⌝ }
+    {
+        match self {
+            Mark::Never => false,
+            Mark::Step(_) => true,
+        }
+    }
+}
+
+// The Rust's Decomposition; L, e and p are in the lent buffers.
+pub struct Decomposition {
+    pub outcome: Outcome,
+    // The first step whose pivot search was tied.
+    pub tied: Mark,
+    // The step at which SE90 or SE99 left phase one.
+    pub phase2: Mark,
+}

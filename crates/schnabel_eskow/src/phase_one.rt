@@ -1,0 +1,259 @@
+// What SE90 and SE99 share of phase one.
+ghost use mathlib.Core.Path.{_≡_};
+ghost use mathlib.Core.List.{List};
+ghost use mathlib.Core.Bool.{Bool, cond};
+ghost use Prim.Native.Nat.{ℕ, _+_, _-_, _*_, _<_, _≤_};
+ghost use lib.ListN.{length};
+ghost use lib.Ieee.{Float, lt};
+ghost use Rattle.matrix.specs.Matrix.{Square};
+ghost use Rattle.methods.specs.Marks.{mark};
+ghost use Rattle.methods.specs.Statements.{pivotMatrix, pivotList};
+ghost use Rattle.methods.specs.Se.{state, start, foldNext, tmpOf, aiiMax, aiiMin, leavesBefore, leavesAfter, leave, pivot, factorize, stepAt, phaseOneStep, inPhaseOne, phaseOne};
+use arithmetic::double::square;
+use matrix::entries::clear;
+use matrix::entries::get;
+use methods::decomposition::Mark;
+use methods::schnabel_eskow::Progress;
+use methods::schnabel_eskow::Tolerances;
+use methods::schnabel_eskow::Variant;
+
+pub fn begin(
+    a: &[f64],
+    n: usize,
+    l: &mut [f64],
+    e: &mut [f64],
+    g: &mut [f64],
+    p: &mut [usize],
+) -> Progress
+    requires { ⌜ Square n (now a) ⌝ }
+    requires { ⌜ Square n (now l) ⌝ }
+    requires { ⌜ (length (now e) ≡ n) × (length (now g) ≡ n) × (length (now p) ≡ n) ⌝ }
+    ensures { λ r. ⌜ state (now (l .exit)) (now (e .exit)) (now (g .exit)) (now (p .exit)) r ≡ start n (now (a .entry)) ⌝ }
+{
+    statements::copy(a, l);
+    clear(e);
+    clear(g);
+    statements::count_up(p);
+    Progress {
+        delta_prev: 0.0,
+        tied: Mark::Never,
+        phase2: Mark::Never,
+        refused: Mark::Never,
+    }
+}
+
+// ---- the tests
+
+fn fold_next(l: &[f64], n: usize, j: usize, i: usize, acc: f64) -> f64
+    requires { ⌜ Square n (now l) ⌝ }
+    requires { ⌜ (j < n) × (i < n) ⌝ }
+    ensures { λ r. ⌜ r ≡ foldNext n j (now (l .entry)) i acc ⌝ }
+{
+    let nv = get(l, n, i, i) - square(get(l, n, i, j)) / get(l, n, j, j);
+    if nv < acc { nv } else { acc }
+}
+
+fn tmp_of(l: &[f64], n: usize, j: usize) -> f64
+    requires { ⌜ Square n (now l) ⌝ }
+    requires { ⌜ j < n ⌝ }
+    ensures { λ r. ⌜ r ≡ tmpOf n j (now (l .entry)) ⌝ }
+{
+    let mut acc = 1.0 / 0.0;
+    let a = j + 1;
+    for i in a..n {
+        acc = fold_next(l, n, j, i, acc);
+    }
+    acc
+}
+
+fn aii_max(l: &[f64], n: usize, j: usize) -> f64
+    requires { ⌜ Square n (now l) ⌝ }
+    requires { ⌜ j < n ⌝ }
+    ensures { λ r. ⌜ r ≡ aiiMax n j (now (l .entry)) ⌝ }
+{
+    let mut acc = -1.0 / 0.0;
+    for i in j..n {
+        acc = larger(acc, get(l, n, i, i));
+    }
+    acc
+}
+
+fn larger(acc: f64, x: f64) -> f64
+    ensures { λ r. ⌜ r ≡ cond (lt acc x) x acc ⌝ }
+{
+    if x > acc { x } else { acc }
+}
+
+fn aii_min(l: &[f64], n: usize, j: usize) -> f64
+    requires { ⌜ Square n (now l) ⌝ }
+    requires { ⌜ j < n ⌝ }
+    ensures { λ r. ⌜ r ≡ aiiMin n j (now (l .entry)) ⌝ }
+{
+    let mut acc = 1.0 / 0.0;
+    for i in j..n {
+        acc = smaller(acc, get(l, n, i, i));
+    }
+    acc
+}
+
+fn smaller(acc: f64, x: f64) -> f64
+    ensures { λ r. ⌜ r ≡ cond (lt x acc) x acc ⌝ }
+{
+    if x < acc { x } else { acc }
+}
+
+// SE99's test before the search.
+fn leaves_before(v: Variant, t: Tolerances, gamma: f64, l: &[f64], n: usize, j: usize) -> bool
+    requires { ⌜ Square n (now l) ⌝ }
+    requires { ⌜ j < n ⌝ }
+    ensures { λ r. ⌜ r ≡ leavesBefore v t gamma n j (now (l .entry)) ⌝ }
+{
+    match v {
+        Variant::Se90 => false,
+        Variant::Se99 => {
+            let max = aii_max(l, n, j);
+            if max < t.tau_bar * gamma {
+                return true;
+            }
+            aii_min(l, n, j) < -t.mu * max
+        }
+    }
+}
+
+// The test after search and swap.
+fn leaves_after(v: Variant, t: Tolerances, gamma: f64, tmp: f64) -> bool
+    ensures { λ r. ⌜ r ≡ leavesAfter v t gamma tmp ⌝ }
+{
+    match v {
+        Variant::Se90 => tmp < t.tau * gamma,
+        Variant::Se99 => tmp < -t.mu * gamma,
+    }
+}
+
+// ---- a step
+
+fn leave(r: Progress, j: usize) -> Progress
+    ensures { λ q. ⌜ q ≡ record { «delta_prev» = r .«delta_prev»; tied = r .tied; phase2 = mark (r .phase2) Bool.true j; refused = r .refused } ⌝ }
+{
+    let phase2 = r.phase2;
+    let tied = r.tied;
+    let refused = r.refused;
+    Progress {
+        delta_prev: r.delta_prev,
+        tied,
+        phase2: phase2.mark(true, j),
+        refused,
+    }
+}
+
+// The pivot max_idx after j goes to j.
+fn pivot(l: &mut [f64], p: &mut [usize], n: usize, j: usize, max_idx: usize)
+    requires { ⌜ Square n (now l) ⌝ }
+    requires { ⌜ (length (now p) ≡ n) × (j + «max_idx» < n) ⌝ }
+    ensures { λ _. ⌜ (now (l .exit) ≡ pivotMatrix n j «max_idx» (now (l .entry))) × (now (p .exit) ≡ pivotList 0 j «max_idx» (now (p .entry))) ⌝ }
+{
+    statements::pivot_matrix(l, n, j, max_idx);
+    statements::pivot_order(p, j, max_idx);
+}
+
+fn step_at(
+    v: Variant,
+    t: Tolerances,
+    gamma: f64,
+    l: &mut [f64],
+    p: &mut [usize],
+    n: usize,
+    j: usize,
+    max_idx: usize,
+    tie: bool,
+    r: Progress,
+) -> Progress
+    requires { ⌜ Square n (now l) ⌝ }
+    requires { ⌜ (length (now p) ≡ n) × (j + «max_idx» < n) ⌝ }
+    ensures { λ q. ⌜ ((e g : List Float) → state (now (l .exit)) e g (now (p .exit)) q ≡ stepAt v t gamma n j «max_idx» tie (state (now (l .entry)) e g (now (p .entry)) r)) ⌝ }
+{
+    pivot(l, p, n, j, max_idx);
+    let tied = r.tied;
+    let phase2 = r.phase2;
+    let refused = r.refused;
+    let pivoted = Progress {
+        delta_prev: r.delta_prev,
+        tied: tied.mark(tie, j),
+        phase2,
+        refused,
+    };
+    if leaves_after(v, t, gamma, tmp_of(l, n, j)) {
+        return leave(pivoted, j);
+    }
+    factorize(l, n, j, pivoted)
+}
+
+// The jth iteration of the factorization.
+fn factorize(l: &mut [f64], n: usize, j: usize, r: Progress) -> Progress
+    requires { ⌜ Square n (now l) ⌝ }
+    requires { ⌜ j < n ⌝ }
+    ensures { λ q. ⌜ ((e g : List Float) (p : List ℕ) → state (now (l .exit)) e g p q ≡ factorize n j (state (now (l .entry)) e g p r)) ⌝ }
+{
+    statements::eliminate(l, n, j);
+    let ok = statements::block_finite(l, n, j);
+    let tied = r.tied;
+    let phase2 = r.phase2;
+    let refused = r.refused;
+    Progress {
+        delta_prev: r.delta_prev,
+        tied,
+        phase2,
+        refused: refused.mark(!ok, j),
+    }
+}
+
+fn phase_one_step(
+    v: Variant,
+    t: Tolerances,
+    gamma: f64,
+    l: &mut [f64],
+    p: &mut [usize],
+    diag: &mut [f64],
+    n: usize,
+    j: usize,
+    r: Progress,
+) -> Progress
+    requires { ⌜ Square n (now l) ⌝ }
+    requires { ⌜ (length (now p) ≡ n) × (length (now diag) ≡ n) × (j < n) ⌝ }
+    ensures { λ q. ⌜ ((e g : List Float) → state (now (l .exit)) e g (now (p .exit)) q ≡ inPhaseOne v t gamma n j (state (now (l .entry)) e g (now (p .entry)) r)) ⌝ }
+{
+    let phase2 = r.phase2;
+    let refused = r.refused;
+    if phase2.marked() {
+        return r;
+    }
+    if refused.marked() {
+        return r;
+    }
+    if leaves_before(v, t, gamma, l, n, j) {
+        return leave(r, j);
+    }
+    let f = statements::search_diagonal(false, l, n, j, diag);
+    step_at(v, t, gamma, l, p, n, j, f.index, f.tied, r)
+}
+
+pub fn phase_one(
+    v: Variant,
+    t: Tolerances,
+    gamma: f64,
+    l: &mut [f64],
+    p: &mut [usize],
+    diag: &mut [f64],
+    n: usize,
+    r: Progress,
+) -> Progress
+    requires { ⌜ Square n (now l) ⌝ }
+    requires { ⌜ (length (now p) ≡ n) × (length (now diag) ≡ n) ⌝ }
+    ensures { λ q. ⌜ ((e g : List Float) → state (now (l .exit)) e g (now (p .exit)) q ≡ phaseOne v t gamma n (state (now (l .entry)) e g (now (p .entry)) r)) ⌝ }
+{
+    let mut q = r;
+    for j in 0..n {
+        q = phase_one_step(v, t, gamma, l, p, diag, n, j, q);
+    }
+    q
+}

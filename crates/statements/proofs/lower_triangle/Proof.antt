@@ -1,0 +1,63 @@
+use mathlib.Core.Path.{_≡_, refl, sym, _∙_}
+use mathlib.Core.List.{List}
+use Prim.Native.Nat.{ℕ, _-_, _≤_, zero-le}
+use lib.ListN.{length}
+use lib.Ieee.{Float}
+use Rattle.arithmetic.specs.Loop.{range, loop-start, loop-turn, loop-end}
+use borrow.Author.Needs.{needs}
+use Rattle.methods.specs.Statements.{clearAfter, lowerTriangle}
+use Rattle.statements.proofs.lower_triangle.Statement.{statement}
+use Rattle.statements.proofs.lower_triangle.Tie as tie
+
+abbrev Inv-loop : tie.InvT-loop
+Inv-loop l₀ n b i₀ l i = (i ≤ b) × (length l ≡ length l₀) × (l ≡ range 0 i (clearAfter n) l₀)
+
+abbrev μ-loop : tie.MeasureT-loop
+μ-loop l₀ n b i₀ l i = b - i
+
+sub-b : tie.Need-sub-b Inv-loop μ-loop
+sub-b c = search needs
+
+loop-holds : tie.Need-loop-holds Inv-loop μ-loop
+loop-holds c = (search needs, refl, loop-start _ _ _)
+
+clear-after-requires : tie.Need-clear-after-requires Inv-loop μ-loop
+clear-after-requires c κs = search needs
+
+add-i : tie.Need-add-i Inv-loop μ-loop
+add-i c = search needs
+
+loop-less : tie.Need-loop-less Inv-loop μ-loop
+loop-less c = search needs
+
+loop-again : tie.Need-loop-again Inv-loop μ-loop
+loop-again c =
+    let l = c .before .before .before .before .before .loop in
+    (search needs, search needs, loop-turn 0 _ _ _ _ _ zero-le (l .inv .2) (c .before .before .clear-after .ensures))
+
+same-length : tie.Need-same-length Inv-loop μ-loop
+same-length c = search needs
+
+triangle-is : (n : ℕ) (l : List Float) → lowerTriangle n l ≡ range 0 (n - 1) (clearAfter n) l
+unfolding lowerTriangle
+triangle-is n l = refl
+
+returns : tie.Need-returns Inv-loop μ-loop
+returns c =
+    let l = c .before .loop in
+    loop-end 0 _ _ _ _ _ (l .inv .0) (search needs) (l .inv .2) ∙ sym (triangle-is _ _)
+
+pub lower-triangle-spec : {M : Type 1} → statement M
+lower-triangle-spec =
+    tie.close
+    (tie.spec
+    Inv-loop
+    μ-loop
+    sub-b
+    loop-holds
+    clear-after-requires
+    add-i
+    loop-less
+    loop-again
+    same-length
+    returns)

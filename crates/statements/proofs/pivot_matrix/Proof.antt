@@ -1,0 +1,30 @@
+use borrow.Author.Needs.{needs}
+use Rattle.methods.proofs.StatementLaws.{matrix-pivoted, matrix-kept}
+use Rattle.statements.proofs.pivot_matrix.Statement.{statement}
+use Rattle.statements.proofs.pivot_matrix.Tie as tie
+
+add-q : tie.Need-add-q
+add-q c = search needs
+
+swap-rows-requires : tie.Need-swap-rows-requires
+swap-rows-requires c κs = search needs
+
+swap-columns-requires : tie.Need-swap-columns-requires
+swap-columns-requires c κs = search needs
+
+same-length : tie.Need-same-length
+same-length c = search needs
+
+returns : tie.Need-returns
+returns c =
+    let s = c .before .before in
+    let r = s .before .before .before .before in
+    matrix-pivoted _ _ _ _ _ _ (r .before .before .if1 .taken) (r .swap-rows .ensures) (s .swap-columns .ensures)
+
+returns-2 : tie.Need-returns-2
+returns-2 c = matrix-kept _ _ _ _ (c .if1 .left)
+
+pub pivot-matrix-spec : {M : Type 1} → statement M
+pivot-matrix-spec =
+    tie.close
+    (tie.spec add-q swap-rows-requires swap-columns-requires same-length returns returns-2)

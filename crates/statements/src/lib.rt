@@ -1,0 +1,259 @@
+// Statements that the methods share.
+ghost use mathlib.Core.Path.{_≡_};
+ghost use mathlib.Core.Bool.{_&&_};
+ghost use Prim.Native.Nat.{ℕ, _+_, _-_, _*_, _<_, _≤_};
+ghost use lib.ListN.{length, getD};
+ghost use lib.Ieee.{nan};
+ghost use lib.Ieee.Scale.{finite};
+ghost use Rattle.matrix.specs.Matrix.{Square, at};
+ghost use Rattle.matrix.specs.Search.{largest};
+ghost use Rattle.matrix.specs.Plain.{AllBelow};
+ghost use Rattle.methods.specs.Statements.{largerMagnitude, diagonalMax, diagonalFrom, pivotMatrix, pivotList, eliminateEntry, divideEntries, eliminateRow, eliminate, clearAfter, lowerTriangle, reorder, all, blockFinite};
+ghost use Rattle.methods.specs.Result.{identity};
+use arithmetic::double::abs;
+use arithmetic::double::finite;
+use arithmetic::sqrt::sqrt;
+use matrix::entries::cell;
+use matrix::entries::get;
+use matrix::entries::put;
+use matrix::utils;
+use matrix::utils::Found;
+
+// ---- folds
+
+pub fn larger_magnitude(acc: f64, x: f64) -> f64
+    ensures { λ r. ⌜ r ≡ largerMagnitude acc x ⌝ }
+{
+    let a = abs(x);
+    if a > acc { a } else { acc }
+}
+
+pub fn diagonal_max(m: &[f64], n: usize) -> f64
+    requires { ⌜ Square n (now m) ⌝ }
+    ensures { λ r. ⌜ r ≡ diagonalMax n (now (m .entry)) ⌝ }
+{
+    let mut acc = 0.0;
+    for i in 0..n {
+        acc = larger_magnitude(acc, get(m, n, i, i));
+    }
+    acc
+}
+
+// ---- the pivot search, over a copy of the diagonal from j on
+
+fn copy_diagonal(m: &[f64], n: usize, j: usize, diag: &mut [f64])
+    requires { ⌜ Square n (now m) ⌝ }
+    requires { ⌜ (j ≤ n) × (length (now diag) ≡ n) ⌝ }
+    ensures { λ _. ⌜ ((i : ℕ) → j ≤ i → i < n → getD (now (diag .exit)) i nan ≡ at n (now (m .entry)) i i) ⌝ }
+{
+    for i in j..n {
+        diag[i] = get(m, n, i, i);
+    }
+}
+
+pub fn search_diagonal(magnitude: bool, m: &[f64], n: usize, j: usize, diag: &mut [f64]) -> Found
+    requires { ⌜ Square n (now m) ⌝ }
+    requires { ⌜ (j < n) × (length (now diag) ≡ n) ⌝ }
+    ensures { λ r. ⌜ r ≡ largest magnitude (diagonalFrom n (now (m .entry)) j) ⌝ }
+{
+    copy_diagonal(m, n, j, diag);
+    utils::largest(magnitude, &diag[j..n])
+}
+
+// ---- pivots: nothing where max_idx is 0
+
+pub fn pivot_matrix(m: &mut [f64], n: usize, j: usize, max_idx: usize)
+    requires { ⌜ Square n (now m) ⌝ }
+    requires { ⌜ j + «max_idx» < n ⌝ }
+    ensures { λ _. ⌜ now (m .exit) ≡ pivotMatrix n j «max_idx» (now (m .entry)) ⌝ }
+{
+    if max_idx != 0 {
+        let q = j + max_idx;
+        utils::swap_rows(m, n, j, q);
+        utils::swap_columns(m, n, j, q);
+    }
+}
+
+pub fn pivot_order(p: &mut [usize], j: usize, max_idx: usize)
+    requires { ⌜ j + «max_idx» < length (now p) ⌝ }
+    ensures { λ _. ⌜ now (p .exit) ≡ pivotList 0 j «max_idx» (now (p .entry)) ⌝ }
+{
+    if max_idx != 0 {
+        let q = j + max_idx;
+        let t = p[j];
+        p[j] = p[q];
+        p[q] = t;
+    }
+}
+
+pub fn pivot_list(g: &mut [f64], j: usize, max_idx: usize)
+    requires { ⌜ j + «max_idx» < length (now g) ⌝ }
+    ensures { λ _. ⌜ now (g .exit) ≡ pivotList nan j «max_idx» (now (g .entry)) ⌝ }
+{
+    if max_idx != 0 {
+        utils::swap(g, j, j + max_idx);
+    }
+}
+
+// ---- the jth iteration of the factorization in SE90 and SE99
+
+fn eliminate_entry(l: &mut [f64], n: usize, j: usize, i: usize, k: usize)
+    requires { ⌜ Square n (now l) ⌝ }
+    requires { ⌜ (j < n) × (i < n) × (k < n) ⌝ }
+    ensures { λ _. ⌜ now (l .exit) ≡ eliminateEntry n j i k (now (l .entry)) ⌝ }
+{
+    let v = get(l, n, i, k) - get(l, n, i, j) * get(l, n, k, j);
+    put(l, n, i, k, v);
+    let w = get(l, n, i, k);
+    put(l, n, k, i, w);
+}
+
+fn divide_entries(l: &mut [f64], n: usize, j: usize, i: usize)
+    requires { ⌜ Square n (now l) ⌝ }
+    requires { ⌜ (j < n) × (i < n) ⌝ }
+    ensures { λ _. ⌜ now (l .exit) ≡ divideEntries n j i (now (l .entry)) ⌝ }
+{
+    let ij = cell(n, i, j);
+    let ji = cell(n, j, i);
+    let jj = cell(n, j, j);
+    l[ij] = l[ij] / l[jj];
+    l[ji] = l[ji] / l[jj];
+}
+
+fn eliminate_row(l: &mut [f64], n: usize, j: usize, i: usize)
+    requires { ⌜ Square n (now l) ⌝ }
+    requires { ⌜ (j < i) × (i < n) ⌝ }
+    ensures { λ _. ⌜ now (l .exit) ≡ eliminateRow n j i (now (l .entry)) ⌝ }
+{
+    divide_entries(l, n, j, i);
+    let a = j + 1;
+    let b = i + 1;
+    for k in a..b {
+        eliminate_entry(l, n, j, i, k);
+    }
+}
+
+pub fn eliminate(l: &mut [f64], n: usize, j: usize)
+    requires { ⌜ Square n (now l) ⌝ }
+    requires { ⌜ j < n ⌝ }
+    ensures { λ _. ⌜ now (l .exit) ≡ eliminate n j (now (l .entry)) ⌝ }
+{
+    let r = sqrt(get(l, n, j, j));
+    put(l, n, j, j, r);
+    let a = j + 1;
+    for i in a..n {
+        eliminate_row(l, n, j, i);
+    }
+}
+
+// ---- at the end
+
+fn clear_after(l: &mut [f64], n: usize, i: usize)
+    requires { ⌜ Square n (now l) ⌝ }
+    requires { ⌜ i < n ⌝ }
+    ensures { λ _. ⌜ now (l .exit) ≡ clearAfter n i (now (l .entry)) ⌝ }
+{
+    let a = i + 1;
+    for k in a..n {
+        put(l, n, i, k, 0.0);
+    }
+}
+
+// The strict upper part becomes +0.0.
+pub fn lower_triangle(l: &mut [f64], n: usize)
+    requires { ⌜ Square n (now l) ⌝ }
+    requires { ⌜ 0 < n ⌝ }
+    ensures { λ _. ⌜ now (l .exit) ≡ lowerTriangle n (now (l .entry)) ⌝ }
+{
+    let b = n - 1;
+    for i in 0..b {
+        clear_after(l, n, i);
+    }
+}
+
+pub fn copy(from: &[f64], to: &mut [f64])
+    requires { ⌜ length (now from) ≡ length (now to) ⌝ }
+    ensures { λ _. ⌜ now (to .exit) ≡ now (from .entry) ⌝ }
+{
+    let n = from.len();
+    for i in 0..n {
+        to[i] = from[i];
+    }
+}
+
+fn reorder_from(p: &[usize], ec: &[f64], e: &mut [f64], n: usize)
+    requires { ⌜ (length (now p) ≡ n) × (length (now ec) ≡ n) × (length (now e) ≡ n) ⌝ }
+    requires { ⌜ now ec ≡ now e ⌝ }
+    requires { ⌜ AllBelow n (now p) ⌝ }
+    ensures { λ _. ⌜ now (e .exit) ≡ reorder n (now (p .entry)) (now (e .entry)) ⌝ }
+{
+    for i in 0..n {
+        e[p[i]] = ec[i];
+    }
+}
+
+// The amounts in the order of the original rows; ec is scratch.
+pub fn reorder(p: &[usize], e: &mut [f64], ec: &mut [f64], n: usize)
+    requires { ⌜ (length (now p) ≡ n) × (length (now ec) ≡ n) × (length (now e) ≡ n) ⌝ }
+    requires { ⌜ AllBelow n (now p) ⌝ }
+    ensures { λ _. ⌜ now (e .exit) ≡ reorder n (now (p .entry)) (now (e .entry)) ⌝ }
+{
+    copy(e, ec);
+    reorder_from(p, ec, e, n);
+}
+
+// 0 to n - 1.
+pub fn count_up(p: &mut [usize])
+    ensures { λ _. ⌜ now (p .exit) ≡ identity (length (now (p .entry))) ⌝ }
+{
+    let n = p.len();
+    for i in 0..n {
+        p[i] = i;
+    }
+}
+
+// ---- whether stored values are finite
+
+fn row_finite(l: &[f64], n: usize, j: usize, i: usize) -> bool
+    requires { ⌜ Square n (now l) ⌝ }
+    requires { ⌜ (j ≤ n) × (i < n) ⌝ }
+    ensures { λ r. ⌜ r ≡ all j n (λ k. finite (at n (now (l .entry)) i k)) ⌝ }
+{
+    let mut ok = true;
+    for k in j..n {
+        ok = both(ok, finite(get(l, n, i, k)));
+    }
+    ok
+}
+
+// Rows and columns j to n - 1.
+pub fn block_finite(l: &[f64], n: usize, j: usize) -> bool
+    requires { ⌜ Square n (now l) ⌝ }
+    requires { ⌜ j ≤ n ⌝ }
+    ensures { λ r. ⌜ r ≡ blockFinite n j (now (l .entry)) ⌝ }
+{
+    let mut ok = true;
+    for i in j..n {
+        ok = both(ok, row_finite(l, n, j, i));
+    }
+    ok
+}
+
+pub fn both(a: bool, b: bool) -> bool
+    ensures { λ r. ⌜ r ≡ (a && b) ⌝ }
+{
+    if a { b } else { false }
+}
+
+// Positions a to the end.
+pub fn list_finite(g: &[f64], a: usize) -> bool
+    requires { ⌜ a ≤ length (now g) ⌝ }
+    ensures { λ r. ⌜ r ≡ all a (length (now (g .entry))) (λ i. finite (getD (now (g .entry)) i nan)) ⌝ }
+{
+    let n = g.len();
+    let mut ok = true;
+    for i in a..n {
+        ok = both(ok, finite(g[i]));
+    }
+    ok
+}
