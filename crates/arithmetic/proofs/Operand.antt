@@ -1,15 +1,15 @@
 -- What the tests in src/double.rt and src/sqrt.rt say of an operand.
 use mathlib.Core.Path.{_≡_, refl, sym, ap, _∙_, subst}
 use mathlib.Core.Bool.{Bool, true, false, not, _&&_, _||_, cond, Bool·beq, true≢false, false≢true}
-use Prim.Native.Nat.{ℕ, zero, suc, _+_, _*_, _<_}
+use Prim.Native.Nat.{ℕ, zero, suc, _+_, _-_, _*_, _<_}
 use native.Mathlib.Omega.{arith}
 use native.Mathlib.Nat.{mul-pos, zero-mul, zero-lt-suc}
 use lib.IntN.{ℤ, pos, negsuc}
 use lib.Dec.{T, eqb, ltb, eqb→eq, ltb→lt, lt→ltb, eqb-refl}
-use lib.Ieee.{Float, nan, inf, fin, binary64, ofBits, up, down, neg, lt, eq, ne, level, isNan, fits}
+use lib.Ieee.{Float, nan, inf, fin, binary64, ofBits, up, down, neg, add, sub, sum, round, lt, eq, ne, level, isNan, fits}
 use lib.Ieee.Bits.{is-true}
-use lib.Ieee.Fits.{up-pos, and-l}
-use lib.Ieee.Scale.{finite}
+use lib.Ieee.Fits.{up-pos, down-pos, and-l}
+use lib.Ieee.Scale.{finite, round-same}
 use Rattle.arithmetic.specs.Double.{plus-zero, abs}
 use Rattle.arithmetic.specs.Same.{zero-exp}
 
@@ -87,19 +87,22 @@ abs-rest rest-nan = refl
 abs-rest rest-inf = refl
 abs-rest (rest-of m e) = refl
 
--- ---- against the infinities
-pub finite-under : (x : Float) → lt x (inf false) ≡ true → lt (inf true) x ≡ finite x
-unfolding lt
-finite-under nan h = refl
-finite-under (inf true) h = refl
-finite-under (inf false) h = absurd (holds h)
-finite-under (fin s m e) h = refl
+-- the code's magnitude: y is x, or +0.0 where x is a zero
+module _ (x y : Float) (f : T (fits binary64 x)) (d : y ≡ cond (eq x plus-zero) plus-zero x) where
+  pub abs-below : lt y plus-zero ≡ true → neg y ≡ abs x
+  unfolding lt ofBits
+  abs-below h = go (eq x plus-zero) refl
+    where
+      go : (b : Bool) → eq x plus-zero ≡ b → neg y ≡ abs x
+      go true e = let z : y ≡ plus-zero = rw e at d in absurd (false≢true (rw z at h))
+      go false e = let z : y ≡ x = rw e at d in rw z (abs-negative (negative-value x (rw z at h)))
 
-pub finite-over : (x : Float) → lt x (inf false) ≡ false → false ≡ finite x
-unfolding lt
-finite-over nan h = refl
-finite-over (inf s) h = refl
-finite-over (fin s m e) h = absurd (fails h tt)
+  pub abs-other : lt y plus-zero ≡ false → y ≡ abs x
+  abs-other h = go (eq x plus-zero) refl
+    where
+      go : (b : Bool) → eq x plus-zero ≡ b → y ≡ abs x
+      go true e = let z : y ≡ plus-zero = rw e at d in z ∙ abs-zero (zero-value x e) f
+      go false e = let z : y ≡ x = rw e at d in rw z (abs-rest (rest-value x (rw z at h) e))
 
 -- ---- against itself
 pub nan-test : (x : Float) → ne x x ≡ isNan x
@@ -115,3 +118,32 @@ nan-test (fin s m e) = ap not (both (eqb (m * up e * down e) (m * up e * down e)
 
     both : (a b : Bool) → a ≡ true → b ≡ true → a && (b || eqb (m * up e * down e) 0) ≡ true
     both a b p q = rw (p, q)
+
+-- ---- the difference from itself: zero, or NaN
+zero-round : (c : ℕ) → 0 < c → round binary64 false 0 c ≡ plus-zero
+unfolding ofBits round
+zero-round c h = sym (round-same binary64 false 0 1 0 c (omega arith) h (omega arith))
+
+pub finite-difference : (x : Float) → eq (sub binary64 x x) plus-zero ≡ finite x
+unfolding eq sub add neg sum ofBits
+finite-difference nan = refl
+finite-difference (inf true) = refl
+finite-difference (inf false) = refl
+finite-difference (fin s m e) = subst (λ (z : Float). eq z plus-zero ≡ true) (sym (difference s)) refl
+  where
+    a : ℕ
+    a = m * up e * down e
+
+    c : 0 < down e * down e
+    c = mul-pos (down-pos e) (down-pos e)
+
+    not-less : ltb a a ≡ false
+    not-less = go (ltb a a) refl
+      where
+        go : (b : Bool) → ltb a a ≡ b → ltb a a ≡ false
+        go true p = absurd (omega (arith, ltb→lt a a (holds p)))
+        go false p = p
+
+    difference : (t : Bool) → sum binary64 t a (not t) a (down e * down e) ≡ plus-zero
+    difference true = let z : a - a ≡ 0 = omega arith in rw (not-less, z) (zero-round (down e * down e) c)
+    difference false = let z : a - a ≡ 0 = omega arith in rw (not-less, z) (zero-round (down e * down e) c)

@@ -1,34 +1,32 @@
 // Doubles as document 01's section 'Arithmetic' has them.
 ghost use mathlib.Core.Path.{_≡_};
 ghost use mathlib.Core.Bool.{cond};
-ghost use lib.Ieee.{isNan};
+ghost use lib.Ieee.{isNan, eq};
 ghost use lib.Ieee.Scale.{finite};
-ghost use Rattle.arithmetic.specs.Double.{abs, max, min, square};
+ghost use Rattle.arithmetic.specs.Double.{plus-zero, abs, max, min, square};
 
 // 2^-52
 pub const EPSILON: f64 = 2.220446049250313e-16;
 
-// Neither infinite nor NaN.
+// Neither infinite nor NaN: the difference from itself is zero.
 pub fn finite(x: f64) -> bool
     ensures { λ r. ⌜ r ≡ finite x ⌝ }
 {
-    let infinity = 1.0 / 0.0;
-    if x < infinity {
-        return -infinity < x;
-    }
-    false
+    x - x == 0.0
+}
+
+// -0.0 becomes +0.0.
+fn unsigned_zero(x: f64) -> f64
+    ensures { λ r. ⌜ r ≡ cond (eq x plus-zero) plus-zero x ⌝ }
+{
+    if x == 0.0 { 0.0 } else { x }
 }
 
 pub fn abs(x: f64) -> f64
     ensures { λ r. ⌜ r ≡ abs x ⌝ }
 {
-    if x < 0.0 {
-        return -x;
-    }
-    if x == 0.0 {
-        return 0.0;
-    }
-    x
+    let y = unsigned_zero(x);
+    if y < 0.0 { -y } else { y }
 }
 
 // u, or v where u is NaN.
