@@ -25,7 +25,7 @@ sum-same a b f g h e = range2-ind (λ t x y. x ≡ y) a b (λ k s. s ⊕ f k) (�
 
 -- ---- l[(j, s)] = c[(j, s)] / d[s]
 module _ (n j : ℕ) (c d l : List Float) (pj : j < n) (h : Entries n l) where
-  row-stored : Stored n 0 (λ s. j) (λ s. s) (λ s. at n c j s ⊘ getD d s nan) l j (divideRow n j c d l)
+  pub row-stored : Stored n 0 (λ s. j) (λ s. s) (λ s. at n c j s ⊘ getD d s nan) l j (divideRow n j c d l)
   unfolding divideRow
   row-stored = stored n 0 j (λ s. j) (λ s. s) (λ s m. at n c j s ⊘ getD d s nan) (λ s. at n c j s ⊘ getD d s nan) l (omega arith) h
       (λ i p q. pj) (λ i p q. omega arith) (λ i k p q u w e f. f) (λ i p q m r. refl)
@@ -53,6 +53,9 @@ module _ (n j : ℕ) (l c : List Float) (pj : j < n) (h : Entries n c) where
 
   pub column-other : (x y : ℕ) → x < n → y < n → (y ≡ j → j ≤ x → ⊥) → at n (column n j l c) x y ≡ at n c x y
   column-other x y px py k = column-stored .rest x y px py (λ t u w e f. k f (omega arith))
+
+  pub column-entries : Entries n (column n j l c)
+  column-entries = column-stored .entries
 
 -- ---- c[(i, i)] -= c2 / d[j]
 module _ (n j : ℕ) (dj : Float) (c : List Float) (pj : j < n) (h : Entries n c) where
@@ -132,8 +135,8 @@ module _ (n j : ℕ) (σ τ : ℕ → ℕ) (pj : j < n) (P : Bijection 0 n σ τ
 
   pub column-moved : (lA lB cA cB : List Float) → Moved n σ lA lB → Moved n σ cA cB → Moved n σ (column n j lA cA) (column n j lB cB)
   column-moved lA lB cA cB L C = record {
-    entriesA = column-stored n j lA cA pj (C .entriesA) .entries;
-    entriesB = column-stored n j lB cB pj (C .entriesB) .entries;
+    entriesA = column-entries n j lA cA pj (C .entriesA);
+    entriesB = column-entries n j lB cB pj (C .entriesB);
     moved = λ x y px py. elim (ℕ-discrete y j) [
       | yes e ↦ elim (decLt x j) [
         | yes k ↦ other x y px py (λ u w. omega arith) (λ u w. omega (arith, low x k px))
@@ -196,6 +199,9 @@ module _ (n : ℕ) (a : List Float) where
   diagonal-start = stored n 0 n (λ i. i) (λ i. i) (λ i m. at n a i i) (λ i. at n a i i) (zeros (n * n)) (omega arith) (length-replicate (n * n) plus-zero)
       (λ i p q. q) (λ i p q. q) (λ i k p q u w e f. e) (λ i p q m r. refl)
 
+  pub start-entries : Entries n (start n a .c)
+  start-entries = diagonal-start .entries
+
   pub start-at : (x : ℕ) → x < n → at n (start n a .c) x x ≡ at n a x x
   start-at x px = diagonal-start .done x (omega arith) px
 
@@ -204,8 +210,8 @@ module _ (n : ℕ) (a : List Float) where
 
 pub start-moved : (n : ℕ) (σ τ : ℕ → ℕ) (A B : List Float) → Bijection 0 n σ τ → Moved n σ A B → Moved n σ (start n A .c) (start n B .c)
 start-moved n σ τ A B P M = record {
-  entriesA = diagonal-start n A .entries;
-  entriesB = diagonal-start n B .entries;
+  entriesA = start-entries n A;
+  entriesB = start-entries n B;
   moved = λ x y px py. elim (ℕ-discrete x y) [
     | yes e ↦ ap (at n (start n B .c) x) (sym e) ∙ start-at n B x px ∙ M .moved x x px px ∙ sym (start-at n A (σ x) (P .to-high x (omega arith) px)) ∙ ap (at n (start n A .c) (σ x)) (ap σ e)
     | no d ↦ start-other n B x y px py d ∙ sym (start-other n A (σ x) (σ y) (P .to-high x (omega arith) px) (P .to-high y (omega arith) py)

@@ -70,7 +70,7 @@ product-is n l r out d e h f = same-entries n out (product n l (doutOf n d)) h (
     ∙ sym (product-at n l (doutOf n d) x y px py))
 
 -- ---- dout's entries are finite where the roots are
-zero-finite : finite plus-zero ≡ true
+pub zero-finite : finite plus-zero ≡ true
 unfolding ofBits
 zero-finite = refl
 

@@ -36,7 +36,7 @@ cond-true x y e = rw e
 pub cond-false : {A : Type 0} {b : Bool} (x y : A) → b ≡ false → y ≡ cond b x y
 cond-false x y e = rw e
 
-cond-keeps : {A : Type 0} (P : A → Type 0) (b : Bool) (x y : A) → P x → P y → P (cond b x y)
+pub cond-keeps : {A : Type 0} (P : A → Type 0) (b : Bool) (x y : A) → P x → P y → P (cond b x y)
 cond-keeps P true x y px py = px
 cond-keeps P false x y px py = py
 
@@ -182,17 +182,21 @@ module _ (v : Variant) (t : Tolerances) (gamma : Float) (n : ℕ) (P : Run → T
 abbrev pub Below : ℕ → Mark → Type 0
 Below n m = (k : ℕ) → m ≡ Step k → k < n
 
-marked-below : (n j : ℕ) (m : Mark) → j < n → Below n m → Below n (mark m true j)
-marked-below n j Never h b k e = let z : j ≡ k = cc in omega arith
-marked-below n j (Step i) h b k e = b k e
+pub never-below : (n : ℕ) → Below n Never
+never-below n k e = absurd (let z : _≡_ {A = ℕ} 0 1 = cc in omega arith)
+
+pub mark-below : (n j : ℕ) (m : Mark) (b : Bool) → j < n → Below n m → Below n (mark m b j)
+mark-below n j Never true h B k e = let z : j ≡ k = cc in omega arith
+mark-below n j Never false h B k e = B k e
+mark-below n j (Step i) b h B k e = B k e
 
 start-below : (n : ℕ) (a : List Float) → Below n (start n a .phase2)
 unfolding start
-start-below n a k e = absurd (let z : _≡_ {A = ℕ} 0 1 = cc in omega arith)
+start-below n a = never-below n
 
 pub phaseOne-below : (v : Variant) (t : Tolerances) (gamma : Float) (n : ℕ) (a : List Float) → Below n (phaseOne v t gamma n (start n a) .phase2)
 unfolding pivot factorize
-phaseOne-below v t gamma n a = phaseOne-keeps v t gamma n (λ s. Below n (s .phase2)) (λ j s h b. marked-below n j (s .phase2) h b) (λ j k tie s b. b) (λ j s b. b) (start n a) (start-below n a)
+phaseOne-below v t gamma n a = phaseOne-keeps v t gamma n (λ s. Below n (s .phase2)) (λ j s h b. mark-below n j (s .phase2) true h b) (λ j k tie s b. b) (λ j s b. b) (start n a) (start-below n a)
 
 -- ---- p holds row numbers below n
 abbrev pub RowsBelow : ℕ → List ℕ → Type 0

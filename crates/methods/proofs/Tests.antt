@@ -100,13 +100,13 @@ lt-left x y z nx ny e = same-tests (lt x z) (lt y z)
     (λ h. lt-cotransitive x y z ny h (eq-not-lt x y e))
     (λ h. lt-cotransitive y x z nx h (eq-not-lt y x (eq-symmetric x y e)))
 
-abbrev isZero : Float → Bool
+abbrev pub isZero : Float → Bool
 isZero nan = false
 isZero (inf s) = false
 isZero (fin s zero e) = true
 isZero (fin s (suc m) e) = false
 
-or-left : (a b : Bool) → b ≡ false → a || b ≡ true → a ≡ true
+pub or-left : (a b : Bool) → b ≡ false → a || b ≡ true → a ≡ true
 or-left true b e f = refl
 or-left false b e f = absurd (false≢true (sym e ∙ f))
 
@@ -197,7 +197,7 @@ round-zero : (s : Bool) (den : ℕ) → 0 < den → isZero (round binary64 s 0 d
 round-zero s den h = zero-value (round binary64 s 0 den) s den h (round-exact binary64 s 0 den 0 0 h (pow-pos 53) (pow-pos (low binary64 + suc (emax binary64))) (sym (zero-mul den)))
 
 -- a product of a finite number with a zero is a zero
-mul-zeros : (s : Bool) (m : ℕ) (e : ℤ) (x : Float) → isZero x ≡ true → isZero (mul binary64 (fin s m e) x) ≡ true
+pub mul-zeros : (s : Bool) (m : ℕ) (e : ℤ) (x : Float) → isZero x ≡ true → isZero (mul binary64 (fin s m e) x) ≡ true
 unfolding mul
 mul-zeros s m e nan h = absurd (false≢true h)
 mul-zeros s m e (inf t) h = absurd (false≢true h)

@@ -1,0 +1,55 @@
+-- Document 01's promises about every result that a run hands back, complete or refused: no amount is negative, p is a permutation,
+-- L is finite with +0.0 above the diagonal, and every step that is reported is a step; and every d of GMW81 is at least 2^-52.
+-- Proved as `results` (proofs/Theorem.antt) and `d-results` (proofs/BoundsGmw81.antt).
+use mathlib.Core.Path.{_≡_}
+use mathlib.Core.Bool.{true, false}
+use mathlib.Core.List.{List}
+use Prim.Native.Nat.{ℕ, _*_, _<_, _≤_}
+use lib.ListN.{length, getD}
+use lib.Ieee.{Float, nan, lt, isNan}
+use lib.Ieee.Scale.{finite}
+use Rattle.arithmetic.specs.Double.{plus-zero, epsilon}
+use Rattle.arithmetic.specs.declared.outcome.Outcome.the-variants.{StoredNotFinite}
+use Rattle.matrix.specs.Matrix.{at}
+use Rattle.methods.specs.Result.{Result}
+use Rattle.methods.specs.Factor.{Method, factor, tolerances}
+use Rattle.methods.specs.Gmw81.{run}
+use Rattle.methods.specs.declared.decomposition.Decomposition.{Decomposition}
+use Rattle.methods.specs.declared.decomposition.Mark.the-variants.{Never, Step}
+use Rattle.load_order.specs.LoadOrder.{LoadOrder, Accepted}
+
+-- e[r] is a finite number that is not negative
+pub record Amounts (n : ℕ) (e : List Float) : Type 0 where
+  pub len : length e ≡ n
+  pub finite-amounts : (r : ℕ) → r < n → finite (getD e r nan) ≡ true
+  pub not-negative : (r : ℕ) → r < n → lt (getD e r nan) plus-zero ≡ false
+
+-- finite, +0.0 above the diagonal
+pub record LowerFactor (n : ℕ) (l : List Float) : Type 0 where
+  pub len : length l ≡ n * n
+  pub finite-entries : (i j : ℕ) → i < n → j < n → finite (at n l i j) ≡ true
+  pub upper : (i j : ℕ) → i < j → j < n → at n l i j ≡ plus-zero
+
+-- every step that is reported is a step: GMW81's scaling counts as step n
+pub record MarksBelow (n : ℕ) (d : Decomposition) : Type 0 where
+  pub tied-below : (j : ℕ) → d .tied ≡ Step j → j < n
+  pub phase2-below : (j : ℕ) → d .phase2 ≡ Step j → j < n
+  pub refused-below : (j : ℕ) → d .outcome ≡ StoredNotFinite j → j ≤ n
+
+pub record Sound (n : ℕ) (r : Result) : Type 0 where
+  pub amounts : Amounts n (r .e)
+  pub lower : LowerFactor n (r .l)
+  -- p lists 0 to n - 1, each once, as a load order does
+  pub permutation : LoadOrder n (r .p)
+  pub marks : MarksBelow n (r .decomposition)
+
+abbrev pub ResultsTheorem : Type 0
+ResultsTheorem = (method : Method) (n : ℕ) (a : List Float) → 0 < n → Accepted n a → Sound n (factor method tolerances n a)
+
+-- x is a number that is not less than w
+pub record AtLeast (w x : Float) : Type 0 where
+  pub number : isNan x ≡ false
+  pub not-less : lt x w ≡ false
+
+abbrev pub DTheorem : Type 0
+DTheorem = (n : ℕ) (a : List Float) → 0 < n → Accepted n a → run n a .refused ≡ Never → (j : ℕ) → j < n → AtLeast epsilon (getD (run n a .d) j nan)
