@@ -1,10 +1,10 @@
 //! Matrices of every kind that a comparison should meet. The same seed gives the same matrices.
 
 mod aimed;
-mod edge;
+pub(crate) mod edge;
 mod plain;
-mod rng;
-mod symmetric;
+pub(crate) mod rng;
+pub(crate) mod symmetric;
 
 use crate::{GMW81, SE99};
 use rng::Rng;
@@ -31,6 +31,26 @@ pub enum Kind {
 }
 
 use Kind::*;
+
+/// Every kind once.
+pub const KINDS: [Kind; 16] = [
+    PositiveDefinite,
+    Indefinite,
+    NearSingular,
+    EqualDiagonals,
+    ZeroDiagonals,
+    TiedByRounding,
+    SmallIntegers,
+    WideMagnitudes,
+    SignedZeros,
+    Subnormal,
+    Huge,
+    RangeEnds,
+    OverflowHalfWay,
+    PhaseTwoAtStep,
+    RefusedAtStep,
+    LastBit,
+];
 
 /// One round of kinds. Those that aim at a step come more often, so that few cases reach each step.
 const ROUND: [Kind; 24] = [
@@ -122,7 +142,7 @@ fn gcd(a: usize, b: usize) -> usize {
 
 /// A matrix for `method` with n rows, loaded in a random order. The kinds that aim at a step aim at
 /// `step`, where the method can get there.
-fn matrix(kind: Kind, method: u8, n: usize, step: usize, rng: &mut Rng) -> Vec<f64> {
+pub(crate) fn matrix(kind: Kind, method: u8, n: usize, step: usize, rng: &mut Rng) -> Vec<f64> {
     let made: Symmetric = match kind {
         PositiveDefinite => plain::positive_definite(n, rng),
         Indefinite => plain::indefinite(n, rng),

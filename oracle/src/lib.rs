@@ -2,6 +2,9 @@
 
 pub mod generate;
 pub mod helpers;
+pub mod record;
+pub mod replay;
+pub mod table;
 
 use modcholesky::{Decomposition, ModCholeskyGMW81, ModCholeskySE90, ModCholeskySE99};
 use ndarray::{Array1, Array2};

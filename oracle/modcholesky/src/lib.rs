@@ -2,7 +2,7 @@
 
 #![allow(clippy::all)]
 
-mod standins;
+pub mod standins;
 mod watched;
 
 include!(concat!(env!("OUT_DIR"), "/lib.rs"));

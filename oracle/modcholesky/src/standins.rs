@@ -1,7 +1,7 @@
 //! The calls whose meaning document 01 fixes.
 
 /// The double nearest the cube root of 2^-52.
-const CBRT_OF_EPSILON: u64 = 0x3ed9_65fe_a53d_6e3d;
+pub const CBRT_OF_EPSILON: u64 = 0x3ed9_65fe_a53d_6e3d;
 
 pub trait StandIns {
     fn standin_max(self, other: f64) -> f64;

@@ -6,13 +6,17 @@ use ndarray::{ArrayView1, ArrayView2};
 
 pub fn index_of_largest(c: &ArrayView1<f64>) -> usize {
     let found = utils::index_of_largest(c);
-    watch::search(c.iter().filter(|&&x| x == c[found]).count());
+    if watch::ON {
+        watch::search(c.iter().filter(|&&x| x == c[found]).count());
+    }
     found
 }
 
 pub fn index_of_largest_abs(c: &ArrayView1<f64>) -> usize {
     let found = utils::index_of_largest_abs(c);
-    watch::search(c.iter().filter(|x| x.abs() == c[found].abs()).count());
+    if watch::ON {
+        watch::search(c.iter().filter(|x| x.abs() == c[found].abs()).count());
+    }
     found
 }
 

@@ -26,6 +26,9 @@ impl<A, D> Array<A, D> {
     }
 
     fn report(&self) {
+        if !watch::ON {
+            return;
+        }
         if let Some((place, step)) = self.written.take() {
             watch::stored(step, &self.data[place]);
         }
@@ -43,7 +46,9 @@ impl<A, D> Array<A, D> {
 
     fn store(&mut self, place: usize) -> &mut A {
         self.report();
-        self.written.set(Some((place, watch::current_step())));
+        if watch::ON {
+            self.written.set(Some((place, watch::current_step())));
+        }
         &mut self.data[place]
     }
 

@@ -92,7 +92,9 @@ impl<A: Clone> ArrayViewMut<'_, A, Ix1> {
     }
 
     fn store(&mut self, place: usize, value: &A) {
-        watch::stored(watch::current_step(), value);
+        if watch::ON {
+            watch::stored(watch::current_step(), value);
+        }
         self.data[place] = value.clone();
     }
 }

@@ -8,17 +8,13 @@
 //! and L are its fillings. A table of what occurred goes to standard error.
 
 use oracle::generate::{cases, Case};
+use oracle::table::{report, Run};
 use oracle::{factor, Answer, COMPLETE};
-use std::collections::BTreeMap;
 use std::fmt::Display;
 use std::io::{self, BufWriter, Write};
 use std::process::ExitCode;
 
 const NONE: usize = 255;
-const NAMES: [&str; 3] = ["GMW81", "SE90", "SE99"];
-
-/// How often each step was met, by method and mark.
-type Table = BTreeMap<(u8, &'static str), BTreeMap<usize, usize>>;
 
 fn main() -> ExitCode {
     let given: Vec<u64> = std::env::args()
@@ -39,14 +35,14 @@ fn main() -> ExitCode {
 
 fn print(count: usize, max_n: usize, seed: u64) -> io::Result<()> {
     let mut out = BufWriter::new(io::stdout().lock());
-    let mut table = Table::new();
+    let mut runs = Vec::new();
     for case in cases(count, max_n, seed) {
         let answer = factor(case.method, case.n, &case.matrix);
         writeln!(out, "{}", line(&case, &answer))?;
-        note(&mut table, &case, &answer);
+        runs.push(run(&case, &answer));
     }
     out.flush()?;
-    report(&table);
+    report(&runs);
     Ok(())
 }
 
@@ -79,30 +75,12 @@ fn joined(list: impl IntoIterator<Item = impl Display>) -> String {
     words.join(" ")
 }
 
-fn note(table: &mut Table, case: &Case, answer: &Answer) {
-    let refused = (answer.refusal != COMPLETE).then_some(answer.step);
-    let complete = (answer.refusal == COMPLETE).then_some(case.n);
-    let marks = [
-        ("complete, by n", complete),
-        ("refused at step", refused),
-        ("tied at step", answer.tied),
-        ("phase two at step", answer.phase_two),
-    ];
-    for (mark, step) in marks {
-        let counts = table.entry((case.method, mark)).or_default();
-        if let Some(step) = step {
-            *counts.entry(step).or_default() += 1;
-        }
-    }
-}
-
-fn report(table: &Table) {
-    for ((method, mark), counts) in table {
-        let total: usize = counts.values().sum();
-        let each = joined(counts.iter().map(|(step, count)| format!("{step}:{count}")));
-        eprintln!(
-            "{:5} {mark:17} {total:6}  {each}",
-            NAMES[usize::from(*method) - 1]
-        );
+fn run(case: &Case, answer: &Answer) -> Run {
+    Run {
+        method: case.method,
+        n: case.n,
+        refused: (answer.refusal != COMPLETE).then_some(answer.step),
+        tied: answer.tied,
+        phase_two: answer.phase_two,
     }
 }

@@ -26,33 +26,29 @@ pub fn last_bit(method: u8, n: usize, step: usize, rng: &mut Rng) -> Symmetric {
     for i in rng.permutation(n) {
         for change in [0.5, -0.5, 4.0, -4.0, 100.0] {
             let end = start.get(i, i) + change;
-            if outcome(method, &moved(&start, i, end)) != first {
-                return halved(method, &start, i, end, rng);
+            let same = |entry: f64| outcome(method, &start.with(i, i, entry)) == first;
+            if !same(end) {
+                let (last, next) = border(start.get(i, i), end, same);
+                return start.with(i, i, rng.pick(&[last, next]));
             }
         }
     }
     start
 }
 
-fn moved(matrix: &Symmetric, i: usize, entry: f64) -> Symmetric {
-    let mut out = matrix.clone();
-    out.set(i, i, entry);
-    out
-}
-
-/// Between entry (i, i) and `end`, whose outcomes differ, halves the doubles until two are left.
-fn halved(method: u8, start: &Symmetric, i: usize, end: f64, rng: &mut Rng) -> Symmetric {
-    let first = outcome(method, start);
-    let (mut same, mut other) = (rank(start.get(i, i)), rank(end));
-    while (same - other).abs() > 1 {
-        let middle = (same + other).div_euclid(2);
-        if outcome(method, &moved(start, i, double(middle))) == first {
-            same = middle;
+/// Between `start`, for which `same` holds, and `end`, for which it doesn't, halves the doubles until
+/// two are left.
+pub fn border(start: f64, end: f64, same: impl Fn(f64) -> bool) -> (f64, f64) {
+    let (mut last, mut next) = (rank(start), rank(end));
+    while (last - next).abs() > 1 {
+        let middle = (last + next).div_euclid(2);
+        if same(double(middle)) {
+            last = middle;
         } else {
-            other = middle;
+            next = middle;
         }
     }
-    moved(start, i, double(rng.pick(&[same, other])))
+    (double(last), double(next))
 }
 
 /// The doubles in order, zero at 0.

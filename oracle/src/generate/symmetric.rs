@@ -20,6 +20,11 @@ impl Symmetric {
         out
     }
 
+    /// From n * n entries by rows.
+    pub fn from_entries(n: usize, entries: &[f64]) -> Self {
+        Symmetric::new(n, |i, j| entries[i * n + j])
+    }
+
     pub fn rows(&self) -> usize {
         self.n
     }
@@ -31,6 +36,13 @@ impl Symmetric {
     pub fn set(&mut self, i: usize, j: usize, value: f64) {
         self.a[i * self.n + j] = value;
         self.a[j * self.n + i] = value;
+    }
+
+    /// A copy with another value at (i, j) and (j, i).
+    pub fn with(&self, i: usize, j: usize, value: f64) -> Self {
+        let mut out = self.clone();
+        out.set(i, j, value);
+        out
     }
 
     /// Row i of the result is row s[i].

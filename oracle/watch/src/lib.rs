@@ -4,6 +4,9 @@
 use std::any::Any;
 use std::cell::Cell;
 
+/// Whether runs are watched.
+pub const ON: bool = !cfg!(feature = "unwatched");
+
 #[derive(Clone, Copy, Debug, Default, PartialEq)]
 pub struct Marks {
     pub tied: Option<usize>,
@@ -23,6 +26,9 @@ thread_local! {
 }
 
 fn update(change: impl FnOnce(&mut Marks)) {
+    if !ON {
+        return;
+    }
     let mut marks = MARKS.get();
     change(&mut marks);
     MARKS.set(marks);
@@ -36,7 +42,9 @@ pub fn begin() {
 
 /// The run is now at step `j`.
 pub fn step(j: usize) {
-    STEP.set(j);
+    if ON {
+        STEP.set(j);
+    }
 }
 
 pub fn current_step() -> usize {
@@ -70,7 +78,7 @@ pub fn stored<A: Any>(step: usize, value: &A) {
     let Some(value) = (value as &dyn Any).downcast_ref::<f64>() else {
         return;
     };
-    if !value.is_finite() {
+    if ON && !value.is_finite() {
         update(|marks| marks.refused = Some(marks.refused.map_or(step, |r| r.min(step))));
     }
 }

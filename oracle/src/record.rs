@@ -1,0 +1,114 @@
+//! Document 01's records: the answer record to any bytes. Written apart from the port.
+
+mod checks;
+
+pub use checks::{checked, Input, Refusal};
+
+use crate::{factor, Answer, COMPLETE, NOT_FINITE};
+
+/// Bytes of the longest matrix record.
+pub const LONGEST: usize = 18_443;
+pub const MAX_N: u8 = 48;
+
+const NONE: u8 = 0xff;
+
+/// What document 01 answers to a record.
+#[derive(Clone, Debug, PartialEq)]
+pub struct Reply {
+    /// The method and n of a record that passes check 1.
+    pub header: Option<(u8, u8)>,
+    pub outcome: Result<Answer, Refusal>,
+    pub tied: Option<usize>,
+    pub phase_two: Option<usize>,
+}
+
+/// Tag, length with its low byte first, content.
+pub fn field(tag: u8, content: &[u8]) -> Vec<u8> {
+    let length = u16::try_from(content.len()).expect("a length has two bytes");
+    let mut out = vec![tag];
+    out.extend(length.to_le_bytes());
+    out.extend(content);
+    out
+}
+
+pub fn bytes(entries: &[f64]) -> Vec<u8> {
+    entries.iter().flat_map(|x| x.to_le_bytes()).collect()
+}
+
+pub fn matrix_record(method: u8, n: u8, entries: &[f64]) -> Vec<u8> {
+    [
+        field(0x01, &[n]),
+        field(0x02, &[method]),
+        field(0x03, &bytes(entries)),
+    ]
+    .concat()
+}
+
+pub fn reply(record: &[u8]) -> Reply {
+    match checked(record) {
+        Ok(input) => run(&input),
+        Err(refusal) => Reply {
+            header: checks::fields(record)
+                .ok()
+                .map(|(n, method, _)| (method, n)),
+            outcome: Err(refusal),
+            tied: None,
+            phase_two: None,
+        },
+    }
+}
+
+fn run(input: &Input) -> Reply {
+    let answer = factor(input.method, usize::from(input.n), &input.matrix);
+    let (tied, phase_two) = (answer.tied, answer.phase_two);
+    let outcome = match answer.refusal {
+        COMPLETE => Ok(answer),
+        NOT_FINITE => Err(Refusal {
+            number: NOT_FINITE,
+            place: [byte(answer.step), 0],
+        }),
+        other => panic!("no answer of document 01: {other}"),
+    };
+    Reply {
+        header: Some((input.method, input.n)),
+        outcome,
+        tied,
+        phase_two,
+    }
+}
+
+impl Reply {
+    /// 0 for a complete run.
+    pub fn refusal(&self) -> u8 {
+        self.outcome.as_ref().err().map_or(COMPLETE, |r| r.number)
+    }
+
+    pub fn record(&self) -> Vec<u8> {
+        let mark = |step: Option<usize>| step.map_or(NONE, byte);
+        let mut out = [
+            field(0x11, &[self.refusal()]),
+            field(0x12, &[mark(self.tied)]),
+            field(0x13, &[mark(self.phase_two)]),
+        ]
+        .concat();
+        match &self.outcome {
+            Ok(answer) => out.extend(factors(answer)),
+            Err(refusal) => out.extend(field(0x17, &refusal.place)),
+        }
+        out
+    }
+}
+
+fn factors(answer: &Answer) -> Vec<u8> {
+    let p: Vec<u8> = answer.p.iter().map(|&row| byte(row)).collect();
+    [
+        field(0x14, &p),
+        field(0x15, &bytes(&answer.e)),
+        field(0x16, &bytes(&answer.l)),
+    ]
+    .concat()
+}
+
+fn byte(step: usize) -> u8 {
+    u8::try_from(step).expect("rows and steps are below 48, or 48")
+}

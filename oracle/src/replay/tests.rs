@@ -1,0 +1,279 @@
+use super::phase_one::{phase_one, Test, TAU};
+use super::*;
+use crate::generate::symmetric::Symmetric;
+use crate::generate::KINDS;
+use crate::record::{checked, Input, LONGEST};
+use crate::{factor, Answer, GMW81, NOT_FINITE, SE90, SE99};
+use std::collections::{BTreeMap, BTreeSet};
+use std::sync::LazyLock;
+
+mod residue;
+
+static CASES: LazyLock<Vec<(Entry, Reply)>> = LazyLock::new(|| {
+    let answered = list().into_iter().map(|entry| (entry.reply(), entry));
+    answered.map(|(reply, entry)| (entry, reply)).collect()
+});
+
+fn ending(method: u8, matrix: &Symmetric) -> Option<(usize, Test)> {
+    phase_one(method, matrix).end
+}
+
+fn replies(kind: &str) -> Vec<Reply> {
+    let own = CASES.iter().filter(|(entry, _)| entry.kind == kind);
+    own.map(|(_, reply)| reply.clone()).collect()
+}
+
+/// Refusal numbers with their places.
+fn refusals(kind: &str) -> Vec<(u8, u8, u8)> {
+    let place = |reply: Reply| {
+        reply
+            .outcome
+            .map_err(|r| (r.number, r.place[0], r.place[1]))
+    };
+    let refusals = replies(kind).into_iter().map(place);
+    refusals.map(|outcome| outcome.unwrap_err()).collect()
+}
+
+#[test]
+fn the_list_is_the_same_again_and_of_its_size() {
+    let again = list();
+    assert_eq!(CASES.len(), again.len());
+    for ((entry, _), other) in CASES.iter().zip(&again) {
+        assert_eq!((&entry.kind, &entry.record), (&other.kind, &other.record));
+    }
+    assert!((300..=400).contains(&again.len()), "{}", again.len());
+    let framed = |(entry, reply): &(Entry, Reply)| framed(&entry.record, &reply.record()).len();
+    let bytes: usize = CASES.iter().map(framed).sum();
+    assert!(bytes < 1_200_000, "{bytes}");
+}
+
+#[test]
+fn kinds_named_by_a_refusal_have_it() {
+    let mut seen = BTreeSet::new();
+    for (entry, reply) in CASES.iter() {
+        let name = entry.kind.split(": ").next();
+        if let Some(number) = name.and_then(|name| name.parse().ok()) {
+            assert_eq!(reply.refusal(), number, "{}", entry.kind);
+            seen.insert(number);
+        }
+    }
+    assert!(seen.into_iter().eq([1, 2, 3, 4, 7, 8, 9]));
+}
+
+#[test]
+fn checks_come_in_order() {
+    let wanted = [1, 2, 2, 3, 3, 4].map(|number| (number, 0, 0));
+    assert_eq!(refusals("order of checks 1 to 4"), wanted);
+}
+
+#[test]
+fn records_are_cut_at_every_byte_and_go_up_to_one_too_many() {
+    let lengths: BTreeSet<usize> = CASES.iter().map(|(e, _)| e.record.len()).collect();
+    assert!((0..=19).all(|length| lengths.contains(&length)));
+    assert_eq!(lengths.last(), Some(&(LONGEST + 1)));
+    assert_eq!(refusals("1: one byte too long"), [(1, 0, 0); 2]);
+}
+
+#[test]
+fn places_of_entries_that_are_not_finite() {
+    let (at, last) = (|i, j| (7, i, j), 47);
+    let wanted = [
+        at(0, 0),
+        at(0, 0),
+        at(2, 2),
+        at(4, 4),
+        at(1, 3),
+        at(1, 3),
+        at(4, 0),
+        at(0, 4),
+        at(2, 4),
+        at(3, 3),
+        at(last, last),
+    ];
+    assert_eq!(refusals("7: places"), wanted);
+    let wanted = [at(3, 3), at(0, 0), at(1, 2)];
+    assert_eq!(refusals("7: unsymmetric too"), wanted);
+    assert_eq!(refusals("7: bit patterns"), [at(1, 1); 10]);
+}
+
+#[test]
+fn places_of_unsymmetric_pairs() {
+    let at = |i, j| (8, i, j);
+    let wanted = [
+        at(0, 1),
+        at(0, 1),
+        at(0, 1),
+        at(0, 1),
+        at(3, 4),
+        at(3, 4),
+        at(0, 4),
+        at(0, 4),
+        at(1, 2),
+        at(2, 3),
+        at(46, 47),
+    ];
+    assert_eq!(refusals("8: places"), wanted);
+    let wanted = [at(0, 2), at(1, 2), at(0, 1), at(0, 1)];
+    assert_eq!(refusals("8: signs and high bits"), wanted);
+}
+
+#[test]
+fn runs_are_refused_at_their_steps() {
+    let wanted = |aims: Vec<steps::Aim>| -> Vec<(u8, u8, u8)> {
+        let refusal = |(_, _, step)| (NOT_FINITE, step as u8, 0);
+        aims.into_iter().map(refusal).collect()
+    };
+    assert_eq!(refusals(steps::AT_STEP), wanted(steps::aims()));
+    assert_eq!(refusals(steps::HALF_WAY), wanted(steps::half_ways()));
+}
+
+#[test]
+fn every_method_is_refused_first_last_and_half_way() {
+    for method in GMW81..=SE99 {
+        let last = if method == SE99 { 46 } else { 47 };
+        assert!(steps::aims().contains(&(method, 5, 0)));
+        assert!(steps::aims().contains(&(method, 5, 2)));
+        assert!(steps::aims().contains(&(method, 48, last)));
+        assert!(steps::half_ways().contains(&(method, 48, 24)));
+    }
+}
+
+#[test]
+fn a_refused_run_keeps_its_tie_and_its_phase() {
+    for (method, reply) in (GMW81..).zip(replies("9: after a tie")) {
+        let phase_two = (method != GMW81).then_some(2);
+        assert_eq!((reply.tied, reply.phase_two), (Some(0), phase_two));
+        assert_eq!(reply.outcome.unwrap_err().place, [2, 0]);
+    }
+}
+
+fn inputs(kind: &str) -> Vec<Input> {
+    let own = CASES.iter().filter(|(entry, _)| entry.kind == kind);
+    own.map(|(entry, _)| checked(&entry.record).unwrap())
+        .collect()
+}
+
+#[test]
+fn ties_come_at_their_step_in_each_method() {
+    let given = ties::GIVEN
+        .iter()
+        .flat_map(|&aim| [(GMW81, aim), (SE90, aim), (SE99, aim)]);
+    for (input, (method, (n, step))) in inputs(ties::KIND).iter().zip(given) {
+        assert_eq!((input.method, usize::from(input.n)), (method, n));
+        let answer = factor(method, n, &input.matrix);
+        assert_eq!(answer.tied, Some(step));
+        assert!(answer.phase_two.is_none_or(|phase_two| phase_two > step));
+        only_rounding_ties(n, &input.matrix, step, &answer);
+    }
+    assert_eq!(inputs(ties::KIND).len(), 3 * ties::GIVEN.len());
+    assert!(ties::GIVEN.contains(&(48, 29)));
+}
+
+/// Nothing is added before the tied step, so that what is left there is the matrix's Schur
+/// complement. No two of its diagonal entries are equal, or equal in magnitude.
+fn only_rounding_ties(n: usize, matrix: &[f64], step: usize, answer: &Answer) {
+    let entries: BTreeSet<u64> = matrix.iter().map(|x| x.abs().to_bits()).collect();
+    assert_eq!(entries.len(), n * (n + 1) / 2, "no two entries are equal");
+    let pivots = &answer.p[..step];
+    assert!(pivots.iter().all(|&row| answer.e[row] == 0.0));
+    let left = residue::diagonal_after(n, matrix, pivots);
+    let either_sign: BTreeSet<u64> = left
+        .iter()
+        .flat_map(|&x| [x, residue::negative(x)])
+        .collect();
+    assert_eq!(either_sign.len(), 2 * (n - step));
+}
+
+#[test]
+fn pairs_differ_in_one_last_bit_and_in_the_phase_two_step() {
+    let mut large = BTreeMap::new();
+    for pair in sides::pairs() {
+        let [first, second] = &pair.matrices;
+        let n = first.rows();
+        differ_in_one_last_bit(first, second);
+        let answers = [first, second].map(|m| factor(pair.method, n, m.entries()));
+        let [early, late] = answers.each_ref().map(|answer| answer.phase_two);
+        assert_eq!(
+            ending(pair.method, first),
+            early.map(|step| (step, pair.test))
+        );
+        assert!(early.is_some() && late.is_none_or(|late| Some(late) > early));
+        // It isn't another pivot that makes the difference.
+        let pivots = answers.each_ref().map(|answer| &answer.p[..early.unwrap()]);
+        assert_eq!(pivots[0], pivots[1]);
+        let name = format!("{} {:?}", pair.method, pair.test);
+        let largest = large.entry(name).or_insert(0);
+        *largest = n.max(*largest);
+    }
+    let sizes: Vec<_> = large.iter().map(|(name, n)| (name.as_str(), *n)).collect();
+    let wanted = [
+        ("2 Tmp", 48),
+        ("3 AiiMax", 17),
+        ("3 AiiMin", 48),
+        ("3 Tmp", 48),
+    ];
+    assert_eq!(sizes, wanted);
+}
+
+fn differ_in_one_last_bit(first: &Symmetric, second: &Symmetric) {
+    let n = first.rows();
+    let lower = (0..n).flat_map(|i| (0..=i).map(move |j| (i, j)));
+    let others: Vec<_> = lower
+        .map(|(i, j)| (first.get(i, j), second.get(i, j)))
+        .filter(|(x, y)| x.to_bits() != y.to_bits())
+        .collect();
+    assert_eq!(others.len(), 1);
+    let (x, y) = others[0];
+    assert!(x.next_up() == y || x.next_down() == y, "{x} {y}");
+}
+
+#[test]
+fn some_pairs_meet_the_bound_itself() {
+    let diagonal = |last: f64| Symmetric::from_entries(2, &[1.0, 0.0, 0.0, last]);
+    assert_eq!(ending(SE90, &diagonal(TAU)), None);
+    assert_eq!(
+        ending(SE90, &diagonal(TAU.next_down())),
+        Some((0, Test::Tmp))
+    );
+    assert_eq!(ending(SE99, &diagonal(TAU)), None);
+    assert_eq!(
+        ending(SE99, &diagonal(TAU.next_down())),
+        Some((1, Test::AiiMax))
+    );
+    assert_eq!(ending(SE99, &diagonal(-0.1)), Some((1, Test::AiiMax)));
+    assert_eq!(
+        ending(SE99, &diagonal((-0.1f64).next_down())),
+        Some((0, Test::AiiMin))
+    );
+}
+
+#[test]
+fn phase_one_ends_where_the_oracle_says() {
+    let accepted = CASES.iter().filter_map(|(e, _)| checked(&e.record).ok());
+    for input in accepted.filter(|input| input.method != GMW81) {
+        let n = input.n.into();
+        let answer = factor(input.method, n, &input.matrix);
+        if answer.refusal != NOT_FINITE {
+            let ending = ending(input.method, &Symmetric::from_entries(n, &input.matrix));
+            assert_eq!(ending.map(|(step, _)| step), answer.phase_two);
+        }
+    }
+}
+
+#[test]
+fn every_kind_and_method_and_both_large_sizes_occur() {
+    let headers = |kind: &str| -> BTreeSet<(u8, u8)> {
+        let replies = replies(kind);
+        replies.iter().filter_map(|reply| reply.header).collect()
+    };
+    let mut large = BTreeSet::new();
+    for kind in KINDS {
+        let headers = headers(&format!("generated: {kind:?}"));
+        let methods: BTreeSet<u8> = headers.iter().map(|(method, _)| *method).collect();
+        assert!(methods.into_iter().eq(GMW81..=SE99), "{kind:?}");
+        large.extend(headers.into_iter().filter(|(_, n)| *n > 46));
+    }
+    for method in GMW81..=SE99 {
+        assert!(large.contains(&(method, 47)) && large.contains(&(method, 48)));
+    }
+}
