@@ -1,0 +1,301 @@
+"""Tests of tools/record: python3 -B -m unittest discover -s tests -p 'test_*.py'"""
+import contextlib
+import importlib.machinery
+import importlib.util
+import io
+import os
+import random
+import struct
+import subprocess
+import sys
+import tempfile
+import unittest
+
+ROOT = os.path.dirname(os.path.dirname(os.path.abspath(__file__)))
+TOOLS = os.path.join(ROOT, "tools")
+PROGRAM = os.path.join(TOOLS, "record")
+SPREAD = os.path.join(ROOT, "examples", "spread.csv")
+LARGEST = sys.float_info.max
+LEAST = 5e-324
+NONE = 0xFF
+
+
+def load_program():
+    """tools/record as a module; its name has no .py."""
+    loader = importlib.machinery.SourceFileLoader("record", PROGRAM)
+    module = importlib.util.module_from_spec(importlib.util.spec_from_loader("record", loader))
+    loader.exec_module(module)
+    return module
+
+
+sys.dont_write_bytecode = True
+sys.path.insert(0, TOOLS)
+record = load_program()
+
+MATRIX_EXAMPLE = bytes.fromhex("01 01 00 01  02 01 00 01  03 08 00 00 00 00 00 00 00 10 40")
+ANSWER_EXAMPLE = bytes.fromhex("11 01 00 00  12 01 00 FF  13 01 00 FF  14 01 00 00"
+                               "15 08 00 00 00 00 00 00 00 00 00  16 08 00 00 00 00 00 00 00 00 40")
+
+
+def run(*arguments, source=b""):
+    """The exit status, the output and what is told on standard error."""
+    sink, told = io.BytesIO(), io.StringIO()
+    with contextlib.redirect_stderr(told):
+        try:
+            status = record.main(list(arguments), io.BytesIO(source), sink)
+        except SystemExit as end:
+            status = end.code
+    return status, sink.getvalue(), told.getvalue()
+
+
+def field(tag, content):
+    return bytes([tag]) + struct.pack("<H", len(content)) + content
+
+
+def doubles(values):
+    return struct.pack(f"<{len(values)}d", *values)
+
+
+def complete(p, e, entries, tied=NONE, phase_two=NONE):
+    return (field(0x11, b"\0") + field(0x12, bytes([tied])) + field(0x13, bytes([phase_two]))
+            + field(0x14, bytes(p)) + field(0x15, doubles(e)) + field(0x16, doubles(entries)))
+
+
+def refused(number, row=0, column=0, tied=NONE, phase_two=NONE):
+    return (field(0x11, bytes([number])) + field(0x12, bytes([tied])) + field(0x13, bytes([phase_two]))
+            + field(0x17, bytes([row, column])))
+
+
+def random_double(source):
+    """Any finite pattern of 64 bits, or one of the extremes."""
+    extremes = [0.0, -0.0, LEAST, -LEAST, LARGEST, -LARGEST, sys.float_info.min]
+    value = struct.unpack("<d", struct.pack("<Q", source.getrandbits(64)))[0]
+    if source.random() < 0.2:
+        value = source.choice(extremes)
+    elif source.random() < 0.2:
+        value = struct.unpack("<d", struct.pack("<Q", source.getrandbits(52)))[0]
+    return value if abs(value) <= LARGEST else 1.0
+
+
+class Case(unittest.TestCase):
+    def setUp(self):
+        folder = tempfile.TemporaryDirectory()
+        self.addCleanup(folder.cleanup)
+        self.folder = folder.name
+
+    def file(self, text):
+        path = os.path.join(self.folder, "matrix")
+        with open(path, "wb") as file:
+            file.write(text if isinstance(text, bytes) else text.encode("utf-8"))
+        return path
+
+    def written(self, text, method="gmw81"):
+        status, output, told = run("write", method, self.file(text))
+        self.assertEqual((status, told), (0, ""))
+        return output
+
+    def entries(self, text):
+        output = self.written(text)
+        return list(struct.unpack(f"<{output[3] ** 2}d", output[11:]))
+
+    def shown(self, answer, *options):
+        status, output, told = run("show", *options, source=answer)
+        self.assertEqual((status, told), (0, ""))
+        return output.decode("utf-8").splitlines()
+
+    def assert_mistake(self, result, words):
+        status, output, told = result
+        self.assertEqual((status, output), (2, b""))
+        self.assertIn(words, told)
+
+
+class Write(Case):
+    def test_example(self):
+        for text in ("4", "4.0\n", "corn\n4", "corn 4", "+4e0"):
+            self.assertEqual(self.written(text), MATRIX_EXAMPLE)
+
+    def test_methods(self):
+        for number, names in enumerate((("gmw81", "GMW81", "1"), ("se90", "Se90", "2"), ("se99", "SE99", "3")), 1):
+            for name in names:
+                self.assertEqual(self.written("4", name)[7], number)
+        for name in ("0", "4", "01", "se98", ""):
+            self.assert_mistake(run("write", name, self.file("4")), "no method")
+
+    def test_separators(self):
+        for text in ("4 2\n2 3", " 4\t2\n2\t 3 ", "4,2\n2,3", "4, 2\n2, 3", "4;2\r\n2;3\r\n", "  4   2 \n 2 3",
+                     "# first\n\n4 2\n  \n # second\n2 3\n\n", "\ufeff4,2\n2,3\n,\n", '"4","2"\n"2","3"'):
+            self.assertEqual(self.entries(text), [4.0, 2.0, 2.0, 3.0], text)
+
+    def test_names_are_left_out(self):
+        for text in ("a b\n4 2\n2 3", "a 4 2\nb 2 3", ",a,b\na,4,2\nb,2,3", "a,b\na,4,2\nb,2,3",
+                     "\ta b\tc d\na b\t4\t2\nc d\t2\t3", '"a, b";c\n4;2\n2;3', '"a;b","c"\n4,2\n2,3'):
+            self.assertEqual(self.entries(text), [4.0, 2.0, 2.0, 3.0], text)
+
+    def test_not_finite_and_unsymmetric_are_written(self):
+        values = self.entries("inf -Infinity\nNaN 0.0")
+        self.assertEqual(values[:2] + values[3:], [float("inf"), float("-inf"), 0.0])
+        self.assertNotEqual(values[2], values[2])
+        self.assertEqual(self.written("0.0 -0.0\n0.0 1")[11:], doubles([0.0, -0.0, 0.0, 1.0]))
+
+    def test_random_doubles(self):
+        source = random.Random(1)
+        for n in (1, 2, 3, 7, 48):
+            values = [random_double(source) for _ in range(n * n)]
+            rows = [values[k:k + n] for k in range(0, n * n, n)]
+            for mark in " ,;\t":
+                text = "\n".join(mark.join(map(repr, row)) for row in rows)
+                self.assertEqual(self.written(text)[11:], doubles(values))
+
+    def test_largest_n(self):
+        output = self.written("\n".join(["1 " * 48] * 48))
+        self.assertEqual(len(output), 18443)
+        self.assertEqual(output[:11], bytes.fromhex("01 01 00 30  02 01 00 01  03 00 48"))
+        self.assert_mistake(run("write", "1", self.file("\n".join(["1 " * 49] * 49))), "49 rows and columns")
+
+    def test_mistakes(self):
+        for text, words in (
+                ("", "no row of numbers"),
+                ("# none\n", "no row of numbers"),
+                ("corn wheat", "no row of numbers"),
+                ("1 2\n2", "line 2: row 1 has length 1, row 0 has length 2"),
+                ("1 2\n\n2 3 4", "line 3: row 1 has length 3, row 0 has length 2"),
+                ("1 2 3\n4 5 6", "not square: 2 by 3"),
+                ("1 2\n2 x", "line 2: row 1, column 1: 'x' is not a number"),
+                ("1 x\n2 3", "line 1: row 0, column 1: 'x' is not a number"),
+                ("a,b\n1,2\n2,", "line 3: row 1, column 1: '' is not a number"),
+                ("1,5;2\n2;3", "row 0, column 0: '1,5' is not a number"),
+                ("4 2; 2 2", "no row of numbers"),
+                ("1_0", "no row of numbers"),
+                ("1 1_0\n1 2", "'1_0' is not a number"),
+                ("1 1e400\n1 2", "row 0, column 1: 1e400 is beyond the largest double"),
+                ("a b c\n1 2\n2 3", "the first line has 3 names for 2 columns"),
+                (",a,b\nb,1,2\na,2,3", "row 0 is named 'b', but column 0 'a'"),
+                ("a,\n1,2\n2,3", "row 1 has an empty name"),
+                ('"a,b\n1,2', "line 1"),
+                (b"\xff\xfe1\0", "UTF-8")):
+            self.assert_mistake(run("write", "1", self.file(text)), words)
+
+    def test_unreadable(self):
+        self.assert_mistake(run("write", "1", os.path.join(self.folder, "absent")), "No such file")
+        self.assert_mistake(run("write", "1", self.folder), self.folder)
+        self.assert_mistake(run("write", "1"), "FILE")
+        self.assert_mistake(run(), "write|show")
+
+
+class Show(Case):
+    def test_example(self):
+        self.assertEqual(self.shown(ANSWER_EXAMPLE), [
+            "complete", "no pivot search was tied", "no phase two", "pivot order: 0",
+            "amount added for each row:", "  0  0.0", "L, its rows in pivot order:", "  0  2.0"])
+        self.assertEqual(complete([0], [0.0], [2.0]), ANSWER_EXAMPLE)
+
+    def test_refusals(self):
+        for number, words in ((1, "malformed record"), (2, "unknown method"), (3, "n is 0 or above 48"),
+                              (4, "the number of entries is not n * n"), (5, "a buffer has a wrong length")):
+            self.assertEqual(self.shown(refused(number)), [f"refused: {number}, {words}"])
+        self.assertEqual(self.shown(refused(6, 3)), ["refused: 6, index not below n, at position 3"])
+        self.assertEqual(self.shown(refused(7, 1, 0)), ["refused: 7, not finite, at row 1, column 0"])
+        self.assertEqual(self.shown(refused(8, 0, 2)), ["refused: 8, unsymmetric, at row 0, column 2"])
+        self.assertEqual(self.shown(refused(9, 48, 0, 3, 7)), [
+            "refused: 9, step 48 stored a value that is not finite",
+            "first tied at step 3: the order of rows may have picked the pivot", "phase two from step 7"])
+        self.assertEqual(self.shown(refused(9))[1:], ["no pivot search was tied", "no phase two"])
+
+    def test_steps(self):
+        lines = self.shown(complete([1, 0], [0.5, 0.0], [1.0, 0.0, -2.5, 3.0], 0, 1))
+        self.assertEqual(lines[1:4], ["first tied at step 0: the order of rows may have picked the pivot",
+                                      "phase two from step 1", "pivot order: 1, 0"])
+        self.assertEqual(lines[4:], ["amount added for each row:", "  0  0.5", "  1  0.0",
+                                     "L, its rows in pivot order:", "  1   1.0  0.0", "  0  -2.5  3.0"])
+
+    def test_names(self):
+        names = self.file(";wheat Dec;maïs\nwheat Dec;1;2\nmaïs;2;3")
+        lines = self.shown(complete([1, 0], [0.5, 0.0], [1.0, 0.0, 2.0, 3.0]), "--names", names)
+        self.assertEqual(lines[3:], [
+            "pivot order: maïs, wheat Dec", "amount added for each row:", "  wheat Dec  0.5", "  maïs       0.0",
+            "L, its rows in pivot order:", "  maïs       1.0  0.0", "  wheat Dec  2.0  3.0"])
+        self.assertEqual(self.shown(refused(8, 0, 1), "--names", names),
+                         ["refused: 8, unsymmetric, at row wheat Dec, column maïs"])
+
+    def test_names_of_another_file(self):
+        without = self.file("1 2\n2 3")
+        self.assertEqual(self.shown(refused(7, 1, 0), "--names", without), self.shown(refused(7, 1, 0)))
+        self.assert_mistake(run("show", "--names", without, source=ANSWER_EXAMPLE), "has 2 rows, the answer 1")
+        self.assert_mistake(run("show", "--names", without, source=refused(8, 0, 2)), "row 0, column 2")
+        self.assert_mistake(run("show", "--names", "absent", source=ANSWER_EXAMPLE), "No such file")
+
+    def test_digits(self):
+        answer = complete([0], [1 / 3], [2 / 3])
+        self.assertEqual(self.shown(answer, "--digits", "3")[5::2], ["  0  0.333", "  0  0.667"])
+        self.assert_mistake(run("show", "--digits", "0", source=answer), "--digits")
+
+    def test_random_doubles(self):
+        source = random.Random(2)
+        for n in (1, 3, 48):
+            p = source.sample(range(n), n)
+            e, entries = ([random_double(source) for _ in range(k)] for k in (n, n * n))
+            lines = self.shown(complete(p, e, entries))
+            amounts = [line.split() for line in lines[5:5 + n]]
+            factor = [line.split() for line in lines[6 + n:]]
+            self.assertEqual([int(row[0]) for row in factor], p)
+            self.assertEqual(doubles([float(row[1]) for row in amounts]), doubles(e))
+            self.assertEqual(doubles([float(cell) for row in factor for cell in row[1:]]), doubles(entries))
+
+    def test_every_shortened_or_lengthened_answer(self):
+        for answer in (ANSWER_EXAMPLE, refused(8, 0, 2)):
+            for k in range(len(answer)):
+                self.assert_mistake(run("show", source=answer[:k]), "not an answer record")
+            self.assert_mistake(run("show", source=answer + b"\0"), "not an answer record")
+
+    def test_mistakes(self):
+        good = complete([1, 0], [0.0] * 2, [0.0] * 4)
+        for answer, words in (
+                (b"", "the input is empty"),
+                (MATRIX_EXAMPLE, "fields 01 02 03 instead of"),
+                (good + field(0x17, b"\0\0"), "instead of 11 12 13 14 15 16"),
+                (b"\0" + good[1:], "fields 00 12"),
+                (complete([], [], []), "field 14 has length 0"),
+                (complete(range(49), [0.0] * 49, [0.0] * 49 ** 2), "field 14 has length 49"),
+                (complete([0, 1], [0.0], [0.0] * 4), "field 15 has length 8 instead of 16"),
+                (complete([0, 1], [0.0] * 2, [0.0] * 3), "field 16 has length 24 instead of 32"),
+                (complete([1, 1], [0.0] * 2, [0.0] * 4), "pivot order"),
+                (complete([0, 2], [0.0] * 2, [0.0] * 4), "pivot order"),
+                (complete([0, 1], [0.0] * 2, [0.0] * 4, tied=2), "tied step 2"),
+                (complete([0, 1], [0.0] * 2, [0.0] * 4, phase_two=2), "phase-two step 2"),
+                (good[:3] + b"\x08" + good[4:], "refusal 8 without a place"),
+                (refused(0), "no refusal has number 0"),
+                (refused(10), "no refusal has number 10"),
+                (refused(3, 1), "refusal 3 cannot be at 1, 0"),
+                (refused(6, 0, 1), "cannot be"),
+                (refused(7, 48, 0), "cannot be"),
+                (refused(8, 2, 0), "cannot be"),
+                (refused(8, 2, 2), "cannot be"),
+                (refused(9, 49), "cannot be"),
+                (refused(8, 0, 1, tied=0), "tied step 0"),
+                (field(0x11, b"\x08\0") + refused(8, 0, 1)[4:], "field 11 has length 2 instead of 1")):
+            self.assert_mistake(run("show", source=answer), words)
+
+
+class Program(Case):
+    def test_spread(self):
+        status, output, told = run("write", "gmw81", SPREAD)
+        self.assertEqual((status, told, output[3]), (0, "", 4))
+        values = struct.unpack("<16d", output[11:])
+        self.assertTrue(all(values[4 * i + j] == values[4 * j + i] for i in range(4) for j in range(4)))
+        self.assertLess(values[10] * values[15], values[11] ** 2)  # so it is indefinite
+        lines = self.shown(refused(8, 0, 2), "--names", SPREAD)
+        self.assertEqual(lines, ["refused: 8, unsymmetric, at row corn Dec, column wheat Dec"])
+
+    def test_as_a_process(self):
+        write = [sys.executable, "-B", PROGRAM, "write", "GMW81", self.file("4")]
+        show = [sys.executable, "-B", PROGRAM, "show"]
+        self.assertEqual(subprocess.run(write, stdout=subprocess.PIPE, check=True).stdout, MATRIX_EXAMPLE)
+        shown = subprocess.run(show, input=ANSWER_EXAMPLE, stdout=subprocess.PIPE, check=True).stdout
+        self.assertEqual(shown.decode().splitlines(), self.shown(ANSWER_EXAMPLE))
+        failed = subprocess.run(show, input=b"", stdout=subprocess.PIPE, stderr=subprocess.PIPE)
+        self.assertEqual((failed.returncode, failed.stdout), (2, b""))
+        self.assertEqual(failed.stderr.splitlines(), [b"record: not an answer record: the input is empty"])
+
+
+if __name__ == "__main__":
+    unittest.main()

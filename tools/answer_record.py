@@ -1,0 +1,170 @@
+"""Answer records (document 01, 'Matrix, answer and record') in words, for tools/record."""
+import struct
+from typing import List, NamedTuple, Tuple
+
+from matrix_file import LARGEST_N, Mistake
+
+NO_STEP = 0xFF
+COMPLETE_TAGS = [0x11, 0x12, 0x13, 0x14, 0x15, 0x16]
+REFUSED_TAGS = [0x11, 0x12, 0x13, 0x17]
+REFUSALS = {
+    1: "malformed record",
+    2: "unknown method",
+    3: "n is 0 or above 48",
+    4: "the number of entries is not n * n",
+    5: "a buffer has a wrong length",
+    6: "index not below n",
+    7: "not finite",
+    8: "unsymmetric",
+}
+
+
+class Answer(NamedTuple):
+    """An answer record; p, e and L are empty in a refusal."""
+    refusal: int
+    tied: int
+    phase_two: int
+    place: Tuple[int, int]
+    p: List[int]
+    e: List[float]
+    L: List[List[float]]
+
+
+# ---- the fields
+
+def split_fields(record):
+    """The tags and the contents."""
+    tags, contents = [], []
+    while record:
+        if len(record) < 3:
+            raise Mistake("the last field has no whole tag and length")
+        tag, length = struct.unpack_from("<BH", record)
+        content, record = record[3:3 + length], record[3 + length:]
+        if len(content) != length:
+            raise Mistake(f"field {tag:02X} has {len(content)} bytes instead of {length}")
+        tags.append(tag)
+        contents.append(content)
+    return tags, contents
+
+
+def check_lengths(tags, contents, lengths):
+    for tag, content, length in zip(tags, contents, lengths):
+        if len(content) != length:
+            raise Mistake(f"field {tag:02X} has length {len(content)} instead of {length}")
+
+
+def check_steps(tied, phase_two, n):
+    for name, step in (("tied", tied), ("phase-two", phase_two)):
+        if step != NO_STEP and step >= n:
+            raise Mistake(f"{name} step {step}, but there are {n} steps")
+
+
+def to_values(content):
+    return [value for value, in struct.iter_unpack("<d", content)]
+
+
+def complete_answer(contents):
+    n = len(contents[3])
+    if not 1 <= n <= LARGEST_N:
+        raise Mistake(f"field 14 has length {n}")
+    check_lengths(COMPLETE_TAGS, contents, [1, 1, 1, n, 8 * n, 8 * n * n])
+    refusal, tied, phase_two = (content[0] for content in contents[:3])
+    p, entries = list(contents[3]), to_values(contents[5])
+    if refusal != 0:
+        raise Mistake(f"refusal {refusal} without a place")
+    check_steps(tied, phase_two, n)
+    if sorted(p) != list(range(n)):
+        raise Mistake("the pivot order has not each row once")
+    rows = [entries[k:k + n] for k in range(0, n * n, n)]
+    return Answer(0, tied, phase_two, (0, 0), p, to_values(contents[4]), rows)
+
+
+def is_place(refusal, row, column):
+    """Whether a refusal with this number can be at this place."""
+    if refusal <= 5:
+        return row == column == 0
+    if refusal == 6:
+        return column == 0
+    if refusal == 7:
+        return row < LARGEST_N and column < LARGEST_N
+    if refusal == 8:
+        return row < column < LARGEST_N
+    return row <= LARGEST_N and column == 0
+
+
+def refused_answer(contents):
+    check_lengths(REFUSED_TAGS, contents, [1, 1, 1, 2])
+    refusal, tied, phase_two = (content[0] for content in contents[:3])
+    row, column = contents[3]
+    if not 1 <= refusal <= 9:
+        raise Mistake(f"no refusal has number {refusal}")
+    if not is_place(refusal, row, column):
+        raise Mistake(f"refusal {refusal} cannot be at {row}, {column}")
+    check_steps(tied, phase_two, LARGEST_N if refusal == 9 else 0)
+    return Answer(refusal, tied, phase_two, (row, column), [], [], [])
+
+
+def parse_answer(record):
+    if not record:
+        raise Mistake("the input is empty")
+    tags, contents = split_fields(record)
+    if tags == COMPLETE_TAGS:
+        return complete_answer(contents)
+    if tags == REFUSED_TAGS:
+        return refused_answer(contents)
+    found = " ".join(f"{tag:02X}" for tag in tags)
+    raise Mistake(f"fields {found} instead of 11 12 13 14 15 16 or 11 12 13 17")
+
+
+def read_answer(record):
+    try:
+        return parse_answer(record)
+    except Mistake as mistake:
+        raise Mistake(f"not an answer record: {mistake}") from None
+
+
+# ---- in words
+
+def refusal_words(answer, labels):
+    number, (row, column) = answer.refusal, answer.place
+    if number == 9:
+        return f"refused: 9, step {row} stored a value that is not finite"
+    words = f"refused: {number}, {REFUSALS[number]}"
+    if number == 6:
+        return f"{words}, at position {row}"
+    if number in (7, 8):
+        return f"{words}, at row {labels[row]}, column {labels[column]}"
+    return words
+
+
+def tied_words(step):
+    if step == NO_STEP:
+        return "no pivot search was tied"
+    return f"first tied at step {step}: the order of rows may have picked the pivot"
+
+
+def phase_two_words(step):
+    return "no phase two" if step == NO_STEP else f"phase two from step {step}"
+
+
+def table(rows):
+    """Lines with the first cell of each row to the left and the others to the right."""
+    first, *others = [max(map(len, column)) for column in zip(*rows)]
+    lines = []
+    for row in rows:
+        right = [cell.rjust(width) for cell, width in zip(row[1:], others)]
+        lines.append("  ".join(["", row[0].ljust(first)] + right))
+    return lines
+
+
+def answer_lines(answer, labels, number_words):
+    """The answer as lines; labels are what to call each row, number_words how to write a number."""
+    steps = [tied_words(answer.tied), phase_two_words(answer.phase_two)]
+    if answer.refusal != 0:
+        return [refusal_words(answer, labels)] + (steps if answer.refusal == 9 else [])
+    pivots = [labels[row] for row in answer.p]
+    amounts = [[labels[row], number_words(amount)] for row, amount in enumerate(answer.e)]
+    factor = [[pivot] + [number_words(entry) for entry in row] for pivot, row in zip(pivots, answer.L)]
+    return (["complete"] + steps + ["pivot order: " + ", ".join(pivots)]
+            + ["amount added for each row:"] + table(amounts)
+            + ["L, its rows in pivot order:"] + table(factor))
