@@ -26,12 +26,12 @@ eliminated g j r x y =
     (cond (eqb x j) (cond (eqb y j) r (g x y ⊘ r)) (cond (eqb y j) (g x y ⊘ r) (g x y ⊖ (g x j ⊘ r) ⊗ (g y j ⊘ r)))))
 
 -- where a position stands to j
-data Side (j x : ℕ) : Type 0 where
+pub data Side (j x : ℕ) : Type 0 where
   before : x < j → Side j x
   is-j : x ≡ j → Side j x
   after : j < x → Side j x
 
-side : (j x : ℕ) → Side j x
+pub side : (j x : ℕ) → Side j x
 side j x = elim (decLt x j) [ yes p ↦ before p | no q ↦ elim (ℕ-discrete x j) [ yes p ↦ is-j p | no s ↦ after (omega arith) ] ]
 
 module _ (g : ℕ → ℕ → Float) (j : ℕ) (r : Float) where
@@ -43,19 +43,19 @@ module _ (g : ℕ → ℕ → Float) (j : ℕ) (r : Float) where
   unfolding eliminated
   low-column x y h = elim (decLt x j) [ yes p ↦ rw (lt-ltb x j p) | no q ↦ rw (le-ltb x j (omega arith), lt-ltb y j h) ]
 
-  corner : (x y : ℕ) → x ≡ j → y ≡ j → eliminated g j r x y ≡ r
+  pub corner : (x y : ℕ) → x ≡ j → y ≡ j → eliminated g j r x y ≡ r
   unfolding eliminated
   corner x y p q = rw (le-ltb x j (omega arith), le-ltb y j (omega arith), eq-eqb x j p, eq-eqb y j q)
 
-  in-column : (x y : ℕ) → j < x → y ≡ j → eliminated g j r x y ≡ g x y ⊘ r
+  pub in-column : (x y : ℕ) → j < x → y ≡ j → eliminated g j r x y ≡ g x y ⊘ r
   unfolding eliminated
   in-column x y p q = rw (le-ltb x j (omega arith), le-ltb y j (omega arith), ne-eqb x j (λ e. omega arith), eq-eqb y j q)
 
-  in-row : (x y : ℕ) → x ≡ j → j < y → eliminated g j r x y ≡ g x y ⊘ r
+  pub in-row : (x y : ℕ) → x ≡ j → j < y → eliminated g j r x y ≡ g x y ⊘ r
   unfolding eliminated
   in-row x y p q = rw (le-ltb x j (omega arith), le-ltb y j (omega arith), eq-eqb x j p, ne-eqb y j (λ e. omega arith))
 
-  inside : (x y : ℕ) → j < x → j < y → eliminated g j r x y ≡ g x y ⊖ (g x j ⊘ r) ⊗ (g y j ⊘ r)
+  pub inside : (x y : ℕ) → j < x → j < y → eliminated g j r x y ≡ g x y ⊖ (g x j ⊘ r) ⊗ (g y j ⊘ r)
   unfolding eliminated
   inside x y p q = rw (le-ltb x j (omega arith), le-ltb y j (omega arith), ne-eqb x j (λ e. omega arith), ne-eqb y j (λ e. omega arith))
 

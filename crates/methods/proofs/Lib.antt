@@ -2,6 +2,7 @@ pub mod Tests
 pub mod Magnitudes
 pub mod Moved
 pub mod Eliminated
+pub mod Rows
 pub mod PhaseOne
 pub mod Reordered
 pub mod Stored
@@ -11,7 +12,14 @@ pub mod Ties
 pub mod StatementLaws
 pub mod CallLaws
 pub mod Pivots
+pub mod Zeros
+pub mod OneTerm
+pub mod Refused
+pub mod FiniteEntries
 pub mod Scaled
 pub mod GmwLaws
+pub mod GmwRuns
+pub mod GmwFinite
 pub mod Answers
 pub mod SeLaws
+pub mod Symmetric

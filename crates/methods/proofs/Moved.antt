@@ -95,7 +95,7 @@ unfolding blockFinite
 block-each n j m h e x y jx px jy py =
     all-each j n (λ k. finite (at n m x k)) h (all-each j n (λ i. all j n (λ k. finite (at n m i k))) h e x jx px) y jy py
 
-block-true : (n j : ℕ) (m : List Float) → j ≤ n → ((x y : ℕ) → j ≤ x → x < n → j ≤ y → y < n → finite (at n m x y) ≡ true) → blockFinite n j m ≡ true
+pub block-true : (n j : ℕ) (m : List Float) → j ≤ n → ((x y : ℕ) → j ≤ x → x < n → j ≤ y → y < n → finite (at n m x y) ≡ true) → blockFinite n j m ≡ true
 unfolding blockFinite
 block-true n j m h f = all-true j n (λ i. all j n (λ k. finite (at n m i k))) h (λ i p q. all-true j n (λ k. finite (at n m i k)) h (λ k u v. f i k p q u v))
 

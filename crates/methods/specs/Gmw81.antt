@@ -197,7 +197,7 @@ finish n s =
     } in
     cond (marked (s .refused)) s next
 
--- what the code's end of a run leaves: c and d are used up
+-- what the code's end of a run leaves: d is used up
 pub record Finished (n : ℕ) (l c d e : List Float) (p : List ℕ) (marks : Marks) (l' e' : List Float) (r : Marks) : Type 0 where
   pub l-is : l' ≡ finish n (state l c d e p marks) .l
   pub e-is : e' ≡ finish n (state l c d e p marks) .e

@@ -1,5 +1,6 @@
 pub mod Marks
 pub mod Statements
+pub mod Elimination
 pub mod Result
 pub mod Gmw81
 pub mod Se

@@ -1,14 +1,13 @@
 // src/gmw81.rs: Gill, Murray and Wright 1981.
 ghost use mathlib.Core.Path.{_≡_};
 ghost use mathlib.Core.List.{List};
-ghost use mathlib.Core.Bool.{_&&_, cond};
-ghost use Prim.Native.Nat.{ℕ, _+_, _-_, _*_, _<_, _≤_};
+ghost use Prim.Native.Nat.{_+_, _-_, _*_, _<_, _≤_};
 ghost use lib.ListN.{length, getD};
-ghost use lib.Dec.{eqb};
 ghost use lib.Ieee.{Float, nan};
 ghost use lib.Ieee.Scale.{finite};
 ghost use Rattle.arithmetic.specs.Double.{plus-zero, one, _⊕_, _⊗_};
 ghost use Rattle.arithmetic.specs.Loop.{range};
+ghost use Rattle.matrix.specs.Checks.{AllFinite};
 ghost use Rattle.matrix.specs.Matrix.{Square, at, put, zeros};
 ghost use Rattle.matrix.specs.Plain.{AllBelow};
 ghost use Rattle.matrix.specs.Table.{table};
@@ -18,6 +17,7 @@ ghost use Rattle.methods.specs.Result.{handBack};
 ghost use Rattle.methods.specs.Calls.{call, answered, factor-call};
 ghost use Rattle.methods.specs.Factor.{gmw81};
 ghost use Rattle.methods.specs.Gmw81.{Stepped, Finished, foldOffDiagonal, foldRow, offDiagonalMax, deltaOf, betaOf, state, start, divideRow, dot, column, thetaOf, dOf, updateDiagonal, storedFinite, stepAt, step, doutOf, unitLower, product, scaledFinite, finish, run, mod-cholesky-gmw81};
+ghost use Rattle.methods.specs.declared.decomposition.Mark.the-variants.{Never};
 use crate::calls;
 use arithmetic::double;
 use arithmetic::double::abs;
@@ -32,7 +32,6 @@ use methods::decomposition::Decomposition;
 use methods::decomposition::Mark;
 use methods::gmw81::Marks;
 use methods::gmw81::StepValues;
-use statements::block_finite;
 use statements::both;
 use statements::larger_magnitude;
 
@@ -379,53 +378,32 @@ fn unit_diagonal(l: &mut [f64], n: usize)
     }
 }
 
-// Entry (t, k) of dout, whose diagonal is r.
-fn dout_entry(r: &[f64], t: usize, k: usize) -> f64
-    requires { ⌜ t < length (now r) ⌝ }
-    ensures { λ v. ⌜ v ≡ cond (eqb t k) (getD (now (r .entry)) t nan) plus-zero ⌝ }
-{
-    if t == k { r[t] } else { 0.0 }
-}
-
-fn product_entry(l: &[f64], r: &[f64], n: usize, i: usize, k: usize) -> f64
+// Row i of l times dout, whose diagonal is r: in the sum of entry (i, k) every other term is a zero.
+fn scale_row(l: &mut [f64], r: &[f64], n: usize, i: usize)
     requires { ⌜ Square n (now l) ⌝ }
-    requires { ⌜ (i < n) × (k < n) × (length (now r) ≡ n) ⌝ }
-    ensures { λ v. ⌜ v ≡ range 0 n (λ t sum. sum ⊕ at n (now (l .entry)) i t ⊗ cond (eqb t k) (getD (now (r .entry)) t nan) plus-zero) plus-zero ⌝ }
-{
-    let mut sum = 0.0;
-    for t in 0..n {
-        sum = sum + get(l, n, i, t) * dout_entry(r, t, k);
-    }
-    sum
-}
-
-// The product of l with dout, whose diagonal is r.
-fn product(l: &[f64], r: &[f64], out: &mut [f64], n: usize)
-    requires { ⌜ Square n (now l) ⌝ }
-    requires { ⌜ Square n (now out) ⌝ }
-    requires { ⌜ length (now r) ≡ n ⌝ }
-    ensures { λ _. ⌜ ((d : List Float) → length d ≡ n → now (r .entry) ≡ table n (λ i. sqrt (getD d i nan)) → now (out .exit) ≡ product n (now (l .entry)) (doutOf n d)) ⌝ }
-{
-    for i in 0..n {
-        product_row(l, r, out, n, i);
-    }
-}
-
-fn product_row(l: &[f64], r: &[f64], out: &mut [f64], n: usize, i: usize)
-    requires { ⌜ Square n (now l) ⌝ }
-    requires { ⌜ Square n (now out) ⌝ }
     requires { ⌜ (length (now r) ≡ n) × (i < n) ⌝ }
-    ensures { λ _. ⌜ now (out .exit) ≡ range 0 n (λ k m. put n m i k (range 0 n (λ t sum. sum ⊕ at n (now (l .entry)) i t ⊗ cond (eqb t k) (getD (now (r .entry)) t nan) plus-zero) plus-zero)) (now (out .entry)) ⌝ }
+    ensures { λ _. ⌜ now (l .exit) ≡ range 0 n (λ k m. put n m i k (plus-zero ⊕ at n m i k ⊗ getD (now (r .entry)) k nan)) (now (l .entry)) ⌝ }
 {
     for k in 0..n {
-        put(out, n, i, k, product_entry(l, r, n, i, k));
+        let v = 0.0 + get(l, n, i, k) * r[k];
+        put(l, n, i, k, v);
     }
 }
 
-// The scaled factor, made in c, and whether step n stored finite values alone.
-fn scale(l: &mut [f64], c: &mut [f64], d: &mut [f64], n: usize) -> bool
+fn scale_rows(l: &mut [f64], r: &[f64], n: usize)
     requires { ⌜ Square n (now l) ⌝ }
-    requires { ⌜ Square n (now c) ⌝ }
+    requires { ⌜ length (now r) ≡ n ⌝ }
+    ensures { λ _. ⌜ now (l .exit) ≡ range 0 n (λ i. range 0 n (λ k m. put n m i k (plus-zero ⊕ at n m i k ⊗ getD (now (r .entry)) k nan))) (now (l .entry)) ⌝ }
+{
+    for i in 0..n {
+        scale_row(l, r, n, i);
+    }
+}
+
+// The scaled factor, and whether step n stored finite values alone.
+fn scale(l: &mut [f64], d: &mut [f64], n: usize) -> bool
+    requires { ⌜ Square n (now l) ⌝ }
+    requires { ⌜ AllFinite n (now l) ⌝ }
     requires { ⌜ (length (now d) ≡ n) × (0 < n) ⌝ }
     ensures { λ _. ⌜ now (l .exit) ≡ product n (unitLower n (now (l .entry))) (doutOf n (now (d .entry))) ⌝ }
     ensures { λ ok. ⌜ ok ≡ scaledFinite n (doutOf n (now (d .entry))) (product n (unitLower n (now (l .entry))) (doutOf n (now (d .entry)))) ⌝ }
@@ -433,14 +411,12 @@ fn scale(l: &mut [f64], c: &mut [f64], d: &mut [f64], n: usize) -> bool
     roots(d);
     unit_diagonal(l, n);
     statements::lower_triangle(l, n);
-    product(l, d, c, n);
-    statements::copy(c, l);
+    scale_rows(l, d, n);
     both(statements::list_finite(d, 0), statements::list_finite(l, 0))
 }
 
 fn finish(
     l: &mut [f64],
-    c: &mut [f64],
     d: &mut [f64],
     e: &mut [f64],
     p: &[usize],
@@ -449,17 +425,17 @@ fn finish(
     marks: Marks,
 ) -> Marks
     requires { ⌜ Square n (now l) ⌝ }
-    requires { ⌜ Square n (now c) ⌝ }
+    requires { ⌜ (marks .refused ≡ Never → AllFinite n (now l)) ⌝ }
     requires { ⌜ (length (now d) ≡ n) × (length (now e) ≡ n) × (length (now p) ≡ n) × (length (now ec) ≡ n) × (0 < n) ⌝ }
     requires { ⌜ AllBelow n (now p) ⌝ }
-    ensures { λ r. ⌜ Finished n (now (l .entry)) (now (c .entry)) (now (d .entry)) (now (e .entry)) (now (p .entry)) marks (now (l .exit)) (now (e .exit)) r ⌝ }
+    ensures { λ r. ⌜ ((c : List Float) → Finished n (now (l .entry)) c (now (d .entry)) (now (e .entry)) (now (p .entry)) marks (now (l .exit)) (now (e .exit)) r) ⌝ }
 {
     let tied = marks.tied;
     let refused = marks.refused;
     if refused.marked() {
         return marks;
     }
-    let ok = scale(l, c, d, n);
+    let ok = scale(l, d, n);
     statements::reorder(p, e, ec, n);
     Marks {
         tied,
@@ -479,6 +455,7 @@ fn run(
     p: &mut [usize],
 ) -> Decomposition
     requires { ⌜ Square n (now a) ⌝ }
+    requires { ⌜ AllFinite n (now a) ⌝ }
     requires { ⌜ Square n (now l) ⌝ }
     requires { ⌜ Square n (now c) ⌝ }
     requires { ⌜ (length (now d) ≡ n) × (length (now diag) ≡ n) × (length (now e) ≡ n) × (length (now p) ≡ n) × (0 < n) ⌝ }
@@ -490,7 +467,7 @@ fn run(
     let beta = beta_of(n, diag_max, off_diag_max);
     let started = begin(a, n, l, c, d, e, p);
     let stepped = steps(l, c, d, e, p, diag, n, delta, beta, started);
-    let marks = finish(l, c, d, e, p, diag, n, stepped);
+    let marks = finish(l, d, e, p, diag, n, stepped);
     let tied = marks.tied;
     let refused = marks.refused;
     calls::hand_back(l, c, e, p, n, tied, Mark::Never, refused)

@@ -4,6 +4,7 @@ ghost use Prim.Native.Nat.{_<_};
 ghost use lib.ListN.{length};
 ghost use Rattle.matrix.specs.Matrix.{Square};
 ghost use Rattle.methods.specs.Calls.{call, answered};
+ghost use Rattle.methods.specs.Elimination.{Symmetric};
 ghost use Rattle.methods.specs.Se.{mod-cholesky-se};
 use crate::calls;
 use methods::decomposition::Decomposition;
@@ -27,7 +28,7 @@ pub fn mod_cholesky_se(
     requires { ⌜ Square n (now a) ⌝ }
     requires { ⌜ Square n (now l) ⌝ }
     requires { ⌜ Square n (now work) ⌝ }
-    requires { ⌜ (length (now e) ≡ n) × (length (now g) ≡ n) × (length (now diag) ≡ n) × (length (now p) ≡ n) × (0 < n) ⌝ }
+    requires { ⌜ (length (now e) ≡ n) × (length (now g) ≡ n) × (length (now diag) ≡ n) × (length (now p) ≡ n) × (0 < n) × Symmetric n (now a) ⌝ }
     ensures { λ r. ⌜ call r (now (l .exit)) (now (work .exit)) (now (e .exit)) (now (p .exit)) ≡ answered n (mod-cholesky-se v t n (now (a .entry))) ⌝ }
 {
     let r = phase_two::run(v, t, a, n, l, e, g, diag, p);

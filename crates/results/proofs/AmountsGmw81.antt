@@ -19,11 +19,11 @@ use Rattle.methods.specs.Result.{filled}
 use Rattle.methods.specs.declared.decomposition.Mark.the-variants.{Never}
 use Rattle.methods.proofs.Moved.{pivot-entries}
 use Rattle.methods.proofs.GmwLaws.{started-is, step-at-is, finish-goes}
+use Rattle.methods.proofs.GmwRuns.{KeptBySteps, steps-keep, l₂Of, c₃Of, stepD, stepE, step-never, stepped, run-is, finish-never}
 use Rattle.methods.proofs.GmwSteps.{column-entries, diagonal-other, diagonal-entries, start-entries}
 use Rattle.results.specs.Results.{Amounts, AtLeast}
 use Rattle.results.proofs.Maximum.{max-left, none-below-nan}
 use Rattle.results.proofs.Difference.{sub-not-negative}
-use Rattle.results.proofs.GmwRuns.{KeptBySteps, steps-keep, l₂Of, c₃Of, stepD, stepE, step-never, stepped, run-is, finish-never}
 use Rattle.results.proofs.AmountsLists.{zeros-amounts, set-amounts, reorder-amounts, filled-amounts}
 
 -- ---- d[j] is not less than c(j, j), also where c(j, j) is NaN

@@ -17,7 +17,7 @@ use Rattle.methods.specs.Statements.{reorder}
 use Rattle.methods.specs.Result.{filled}
 use Rattle.methods.specs.declared.decomposition.Mark.{Mark}
 use Rattle.methods.specs.declared.decomposition.Mark.the-variants.{Never, Step}
-use Rattle.methods.proofs.Scaled.{zero-finite}
+use Rattle.methods.proofs.FiniteEntries.{zero-finite}
 use Rattle.results.specs.Results.{Amounts}
 
 pub zeros-amounts : (n : ℕ) → Amounts n (zeros n)

@@ -15,9 +15,9 @@ use Rattle.methods.specs.Statements.{diagonalMax}
 use Rattle.methods.specs.Gmw81.{Run, start, dOf, stepAt, finish, offDiagonalMax, deltaOf}
 use Rattle.methods.specs.declared.decomposition.Mark.the-variants.{Never}
 use Rattle.methods.proofs.GmwLaws.{started-is, step-at-is, finish-stays, finish-goes}
+use Rattle.methods.proofs.GmwRuns.{KeptBySteps, steps-keep, stepD, step-never, stepped, run-is, finish-never}
 use Rattle.results.specs.Results.{AtLeast, DTheorem}
 use Rattle.results.proofs.Maximum.{at-least-self, max-left, max-right, epsilon-times}
-use Rattle.results.proofs.GmwRuns.{KeptBySteps, steps-keep, stepD, step-never, stepped, run-is, finish-never}
 
 -- ---- delta and d
 one-bound : AtLeast one one

@@ -1,7 +1,6 @@
 pub mod Maximum
 pub mod Difference
 pub mod Marks
-pub mod GmwRuns
 pub mod SeRuns
 pub mod SeTests
 pub mod BoundsGmw81
@@ -11,7 +10,6 @@ pub mod AmountsLast
 pub mod AmountsSe
 pub mod LowerFinite
 pub mod LowerTriangle
-pub mod LowerZero
 pub mod LowerScaled
 pub mod LowerGmw81
 pub mod LowerSe

@@ -1,4 +1,4 @@
--- Matrices whose entries are all finite: kept by pivots, by stores of finite values, and by the stores of a step where it is tested.
+-- Matrices whose entries are all finite: kept by stores of finite values, and by the stores of a step where it is tested.
 use mathlib.Core.Path.{_≡_, refl, _∙_}
 use mathlib.Core.List.{List}
 use mathlib.Core.Bool.{true}
@@ -12,21 +12,9 @@ use Rattle.arithmetic.specs.Loop.{range-ind}
 use Rattle.arithmetic.specs.Sqrt.{sqrt}
 use Rattle.matrix.specs.Matrix.{at, put}
 use Rattle.matrix.proofs.EntryLaws.{Entries, put-entries, at-put-other}
-use Rattle.matrix.proofs.SwapLaws.{transpose, transpose-lt}
-use Rattle.methods.specs.Statements.{pivotMatrix, eliminateEntry, divideEntries, eliminateRow, eliminate, blockFinite}
-use Rattle.methods.proofs.Moved.{pivot-entries, pivot-at, block-each}
-
-pub record FiniteEntries (n : ℕ) (m : List Float) : Type 0 where
-  pub entries : Entries n m
-  pub each : (x y : ℕ) → x < n → y < n → finite (at n m x y) ≡ true
-
--- ---- pivots and stores
-pub pivot-finite : (n j k : ℕ) (m : List Float) → j < n → j + k < n → FiniteEntries n m → FiniteEntries n (pivotMatrix n j k m)
-pivot-finite n j k m pj pk F = record {
-  entries = pivot-entries n j k m (F .entries) pj pk;
-  each = λ x y px py. rw (pivot-at n j k m (F .entries) pj pk x y px py)
-      (F .each (transpose j (j + k) x) (transpose j (j + k) y) (transpose-lt n j (j + k) x pj pk px) (transpose-lt n j (j + k) y pj pk py));
-}
+use Rattle.methods.specs.Statements.{eliminateEntry, divideEntries, eliminateRow, eliminate, blockFinite}
+use Rattle.methods.proofs.FiniteEntries.{FiniteEntries}
+use Rattle.methods.proofs.Moved.{block-each}
 
 -- a store that is tested by a read of its place
 pub put-finite : (n : ℕ) (m : List Float) (i k : ℕ) (v : Float) → k < n → finite (at n (put n m i k v) i k) ≡ true → FiniteEntries n m → FiniteEntries n (put n m i k v)

@@ -16,12 +16,13 @@ use Rattle.methods.specs.declared.schnabel_eskow.Tolerances.{Tolerances}
 use Rattle.methods.specs.declared.schnabel_eskow.Variant.{Variant}
 use Rattle.methods.specs.declared.schnabel_eskow.Last.{Last}
 use Rattle.methods.specs.declared.schnabel_eskow.Last.the-variants.{One, Pair}
+use Rattle.methods.proofs.FiniteEntries.{FiniteEntries, pivot-finite}
 use Rattle.load_order.specs.LoadOrder.{Accepted}
 use Rattle.results.specs.Results.{LowerFactor}
 use Rattle.results.proofs.SeRuns.{KeptInPhaseOne, KeptInPhaseTwo, run-keeps}
 use Rattle.results.proofs.SeTests.{factorize-never, begin-never, amountAt, addedAt, step-tested, one₁, one-tested, pair₁, pair₂, pair₃, pair₄, pair-tested}
-use Rattle.results.proofs.LowerFinite.{FiniteEntries, pivot-finite, put-finite, outside-put, outside-self, outside-eliminate, block-finite}
-use Rattle.results.proofs.LowerTriangle.{triangle-finite, handed-lower}
+use Rattle.results.proofs.LowerFinite.{put-finite, outside-put, outside-self, outside-eliminate, block-finite}
+use Rattle.results.proofs.LowerTriangle.{triangle-lower, handed-lower}
 
 -- until the run is refused
 abbrev FiniteRun : ℕ → Run → Type 0
@@ -98,4 +99,4 @@ finite-se v t n a A = run-keeps v t n a (FiniteRun n) (FiniteRun n) (kept-one v 
 
 pub lower-se : (v : Variant) (t : Tolerances) (n : ℕ) (a : List Float) → Accepted n a → LowerFactor n (mod-cholesky-se v t n a .l)
 unfolding mod-cholesky-se
-lower-se v t n a A = handed-lower n (run v t n a .refused) (lowerTriangle n (run v t n a .l)) (λ e. triangle-finite n (run v t n a .l) (finite-se v t n a A e))
+lower-se v t n a A = handed-lower n (run v t n a .refused) (lowerTriangle n (run v t n a .l)) (λ e. triangle-lower n (run v t n a .l) (finite-se v t n a A e))

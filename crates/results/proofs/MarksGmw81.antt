@@ -8,10 +8,10 @@ use Rattle.methods.specs.Marks.{marked}
 use Rattle.methods.specs.Gmw81.{Run, start, finish, run, mod-cholesky-gmw81}
 use Rattle.methods.specs.declared.decomposition.Mark.the-variants.{Never}
 use Rattle.methods.proofs.GmwLaws.{started-is, step-at-is, finish-stays, finish-goes}
+use Rattle.methods.proofs.GmwRuns.{KeptBySteps, steps-keep, stepped, run-is}
 use Rattle.methods.proofs.SeLaws.{Below, never-below, mark-below}
 use Rattle.results.specs.Results.{MarksBelow}
 use Rattle.results.proofs.Marks.{handed-marks}
-use Rattle.results.proofs.GmwRuns.{KeptBySteps, steps-keep, stepped, run-is}
 
 record Steps (n : ℕ) (s : Run) : Type 0 where
   tied : Below n (s .tied)

@@ -4,9 +4,9 @@ use Prim.Native.Nat.{ℕ}
 use lib.Ieee.{Float}
 use Rattle.methods.specs.Gmw81.{start, run, mod-cholesky-gmw81}
 use Rattle.methods.proofs.GmwLaws.{started-is, step-at-is, finish-order}
+use Rattle.methods.proofs.GmwRuns.{KeptBySteps, steps-keep, stepped, run-is}
 use Rattle.load_order.specs.LoadOrder.{LoadOrder}
 use Rattle.results.proofs.Order.{Permuted, identity-permuted, pivot-permuted, handed-order}
-use Rattle.results.proofs.GmwRuns.{KeptBySteps, steps-keep, stepped, run-is}
 
 kept : (n : ℕ) (delta beta : Float) → KeptBySteps n delta beta (λ j s. Permuted n (s .p))
 kept n delta beta = record { by-step = λ j k tie s h hk P. rw step-at-is (pivot-permuted n j k (s .p) hk P); refused = λ j s h P. P }

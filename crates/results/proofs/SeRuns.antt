@@ -24,9 +24,9 @@ use Rattle.methods.specs.declared.schnabel_eskow.Tolerances.{Tolerances}
 use Rattle.methods.specs.declared.schnabel_eskow.Variant.{Variant}
 use Rattle.methods.proofs.Moved.{length-pivot}
 use Rattle.methods.proofs.Pivots.{pick-below}
+use Rattle.methods.proofs.Refused.{unmarked-never}
 use Rattle.methods.proofs.SeLaws.{cond-keeps, bounds-pick, stepAt-is, phaseOneStep-is, inPhaseOne-is, phaseOne-is, phaseTwoStep-is, pairs-is, phaseTwoFrom-is, after-never, after-step, run-is, Below, phaseOne-below}
 use Rattle.results.proofs.Maximum.{or-first}
-use Rattle.results.proofs.Marks.{unmarked-never}
 
 -- the test before the search, or the one after it
 abbrev pub Leaves : Variant → Tolerances → Float → ℕ → ℕ → List Float → Type 0

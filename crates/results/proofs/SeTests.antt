@@ -16,7 +16,7 @@ use Rattle.methods.specs.Se.{Run, factorize, begin, bounds, columnSum, amount, 
 use Rattle.methods.specs.declared.decomposition.Mark.the-variants.{Never}
 use Rattle.methods.specs.declared.schnabel_eskow.Tolerances.{Tolerances}
 use Rattle.methods.specs.declared.schnabel_eskow.Variant.{Variant}
-use Rattle.results.proofs.Marks.{NotRefused, goes-on}
+use Rattle.methods.proofs.Refused.{NotRefused, goes-on}
 
 pub factorize-never : (n j : ℕ) (s : Run) → factorize n j s .refused ≡ Never → NotRefused (s .refused) (blockFinite n j (eliminate n j (s .l)))
 unfolding factorize

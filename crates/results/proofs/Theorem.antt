@@ -12,5 +12,5 @@ use Rattle.results.proofs.MarksSe.{marks-se}
 
 pub results : ResultsTheorem
 unfolding factor
-results gmw81 n a some A = record { amounts = amounts-gmw81 n a; lower = lower-gmw81 n a some A; permutation = permutation-gmw81 n a; marks = marks-gmw81 n a }
+results gmw81 n a some A = record { amounts = amounts-gmw81 n a; lower = lower-gmw81 n a A; permutation = permutation-gmw81 n a; marks = marks-gmw81 n a }
 results (se v) n a some A = record { amounts = amounts-se v n a some; lower = lower-se v tolerances n a A; permutation = permutation-se v tolerances n a; marks = marks-se v tolerances n a }

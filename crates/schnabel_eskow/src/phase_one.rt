@@ -8,6 +8,7 @@ ghost use lib.Ieee.{Float, lt};
 ghost use Rattle.matrix.specs.Matrix.{Square};
 ghost use Rattle.methods.specs.Marks.{mark};
 ghost use Rattle.methods.specs.Statements.{pivotMatrix, pivotList};
+ghost use Rattle.methods.specs.Elimination.{Symmetric};
 ghost use Rattle.methods.specs.Se.{state, start, foldNext, tmpOf, aiiMax, aiiMin, leavesBefore, leavesAfter, leave, pivot, factorize, stepAt, phaseOneStep, inPhaseOne, phaseOne};
 use arithmetic::double::square;
 use matrix::entries::clear;
@@ -169,7 +170,7 @@ fn step_at(
     r: Progress,
 ) -> Progress
     requires { ⌜ Square n (now l) ⌝ }
-    requires { ⌜ (length (now p) ≡ n) × (j + «max_idx» < n) ⌝ }
+    requires { ⌜ (length (now p) ≡ n) × (j + «max_idx» < n) × Symmetric n (now l) ⌝ }
     ensures { λ q. ⌜ ((e g : List Float) → state (now (l .exit)) e g (now (p .exit)) q ≡ stepAt v t gamma n j «max_idx» tie (state (now (l .entry)) e g (now (p .entry)) r)) ⌝ }
 {
     pivot(l, p, n, j, max_idx);
@@ -191,11 +192,10 @@ fn step_at(
 // The jth iteration of the factorization.
 fn factorize(l: &mut [f64], n: usize, j: usize, r: Progress) -> Progress
     requires { ⌜ Square n (now l) ⌝ }
-    requires { ⌜ j < n ⌝ }
+    requires { ⌜ (j < n) × Symmetric n (now l) ⌝ }
     ensures { λ q. ⌜ ((e g : List Float) (p : List ℕ) → state (now (l .exit)) e g p q ≡ factorize n j (state (now (l .entry)) e g p r)) ⌝ }
 {
-    statements::eliminate(l, n, j);
-    let ok = statements::block_finite(l, n, j);
+    let ok = statements::eliminate(l, n, j);
     let tied = r.tied;
     let phase2 = r.phase2;
     let refused = r.refused;
@@ -219,7 +219,7 @@ fn phase_one_step(
     r: Progress,
 ) -> Progress
     requires { ⌜ Square n (now l) ⌝ }
-    requires { ⌜ (length (now p) ≡ n) × (length (now diag) ≡ n) × (j < n) ⌝ }
+    requires { ⌜ (length (now p) ≡ n) × (length (now diag) ≡ n) × (j < n) × Symmetric n (now l) ⌝ }
     ensures { λ q. ⌜ ((e g : List Float) → state (now (l .exit)) e g (now (p .exit)) q ≡ inPhaseOne v t gamma n j (state (now (l .entry)) e g (now (p .entry)) r)) ⌝ }
 {
     let phase2 = r.phase2;
@@ -248,7 +248,7 @@ pub fn phase_one(
     r: Progress,
 ) -> Progress
     requires { ⌜ Square n (now l) ⌝ }
-    requires { ⌜ (length (now p) ≡ n) × (length (now diag) ≡ n) ⌝ }
+    requires { ⌜ (length (now p) ≡ n) × (length (now diag) ≡ n) × Symmetric n (now l) ⌝ }
     ensures { λ q. ⌜ ((e g : List Float) → state (now (l .exit)) e g (now (p .exit)) q ≡ phaseOne v t gamma n (state (now (l .entry)) e g (now (p .entry)) r)) ⌝ }
 {
     let mut q = r;

@@ -5,10 +5,12 @@ ghost use Prim.Native.Nat.{ℕ, _+_, _-_, _*_, _<_, _≤_};
 ghost use lib.ListN.{length, getD};
 ghost use lib.Ieee.{nan};
 ghost use lib.Ieee.Scale.{finite};
+ghost use Rattle.arithmetic.specs.Double.{_⊘_};
 ghost use Rattle.matrix.specs.Matrix.{Square, at};
 ghost use Rattle.matrix.specs.Search.{largest};
 ghost use Rattle.matrix.specs.Plain.{AllBelow};
-ghost use Rattle.methods.specs.Statements.{largerMagnitude, diagonalMax, diagonalFrom, pivotMatrix, pivotList, eliminateEntry, divideEntries, eliminateRow, eliminate, clearAfter, lowerTriangle, reorder, all, blockFinite};
+ghost use Rattle.methods.specs.Statements.{largerMagnitude, diagonalMax, diagonalFrom, pivotMatrix, pivotList, eliminate, clearAfter, lowerTriangle, reorder, all, blockFinite};
+ghost use Rattle.methods.specs.Elimination.{Symmetric, RowWritten, RowsEliminated, subtracted};
 ghost use Rattle.methods.specs.Result.{identity};
 use arithmetic::double::abs;
 use arithmetic::double::finite;
@@ -97,53 +99,70 @@ pub fn pivot_list(g: &mut [f64], j: usize, max_idx: usize)
 
 // ---- the jth iteration of the factorization in SE90 and SE99
 
-fn eliminate_entry(l: &mut [f64], n: usize, j: usize, i: usize, k: usize)
+// Divides row j after j by r; column gets the quotients.
+fn divide_row(l: &mut [f64], n: usize, j: usize, r: f64, column: &mut [f64]) -> bool
     requires { ⌜ Square n (now l) ⌝ }
-    requires { ⌜ (j < n) × (i < n) × (k < n) ⌝ }
-    ensures { λ _. ⌜ now (l .exit) ≡ eliminateEntry n j i k (now (l .entry)) ⌝ }
+    requires { ⌜ (j < n) × (n ≤ length (now column)) ⌝ }
+    ensures { λ ok. ⌜ RowWritten n j (j + 1) (λ y. at n (now (l .entry)) j y ⊘ r) (now (l .entry)) n (now (l .exit)) ok × ((y : ℕ) → j + 1 ≤ y → y < n → getD (now (column .exit)) y nan ≡ at n (now (l .entry)) j y ⊘ r) ⌝ }
 {
-    let v = get(l, n, i, k) - get(l, n, i, j) * get(l, n, k, j);
-    put(l, n, i, k, v);
-    let w = get(l, n, i, k);
-    put(l, n, k, i, w);
-}
-
-fn divide_entries(l: &mut [f64], n: usize, j: usize, i: usize)
-    requires { ⌜ Square n (now l) ⌝ }
-    requires { ⌜ (j < n) × (i < n) ⌝ }
-    ensures { λ _. ⌜ now (l .exit) ≡ divideEntries n j i (now (l .entry)) ⌝ }
-{
-    let ij = cell(n, i, j);
-    let ji = cell(n, j, i);
-    let jj = cell(n, j, j);
-    l[ij] = l[ij] / l[jj];
-    l[ji] = l[ji] / l[jj];
-}
-
-fn eliminate_row(l: &mut [f64], n: usize, j: usize, i: usize)
-    requires { ⌜ Square n (now l) ⌝ }
-    requires { ⌜ (j < i) × (i < n) ⌝ }
-    ensures { λ _. ⌜ now (l .exit) ≡ eliminateRow n j i (now (l .entry)) ⌝ }
-{
-    divide_entries(l, n, j, i);
+    let mut ok = true;
     let a = j + 1;
-    let b = i + 1;
-    for k in a..b {
-        eliminate_entry(l, n, j, i, k);
+    for k in a..n {
+        let jk = cell(n, j, k);
+        let v = l[jk] / r;
+        l[jk] = v;
+        column[k] = v;
+        ok = both(ok, finite(v));
     }
+    ok
 }
 
-pub fn eliminate(l: &mut [f64], n: usize, j: usize)
+// Row i after j less column[i] times the column.
+fn subtract_multiple(l: &mut [f64], n: usize, j: usize, i: usize, column: &[f64]) -> bool
     requires { ⌜ Square n (now l) ⌝ }
-    requires { ⌜ j < n ⌝ }
-    ensures { λ _. ⌜ now (l .exit) ≡ eliminate n j (now (l .entry)) ⌝ }
+    requires { ⌜ (j < n) × (i < n) × (n ≤ length (now column)) ⌝ }
+    ensures { λ ok. ⌜ RowWritten n i (j + 1) (subtracted n (now (l .entry)) (now (column .entry)) i) (now (l .entry)) n (now (l .exit)) ok ⌝ }
 {
-    let r = sqrt(get(l, n, j, j));
-    put(l, n, j, j, r);
+    let mut ok = true;
+    let x = column[i];
+    let a = j + 1;
+    for k in a..n {
+        let ik = cell(n, i, k);
+        let v = l[ik] - x * column[k];
+        l[ik] = v;
+        ok = both(ok, finite(v));
+    }
+    ok
+}
+
+// The rows after j, column being what is to stand in column j.
+fn eliminate_rows(l: &mut [f64], n: usize, j: usize, column: &[f64]) -> bool
+    requires { ⌜ Square n (now l) ⌝ }
+    requires { ⌜ (j < n) × (n ≤ length (now column)) ⌝ }
+    ensures { λ ok. ⌜ RowsEliminated n j (now (column .entry)) (now (l .entry)) n (now (l .exit)) ok ⌝ }
+{
+    let mut ok = true;
     let a = j + 1;
     for i in a..n {
-        eliminate_row(l, n, j, i);
+        put(l, n, i, j, column[i]);
+        ok = both(ok, subtract_multiple(l, n, j, i, column));
     }
+    ok
+}
+
+// Of a symmetric matrix; whether rows and columns j to n - 1 are finite then.
+pub fn eliminate(l: &mut [f64], n: usize, j: usize) -> bool
+    requires { ⌜ Square n (now l) ⌝ }
+    requires { ⌜ Symmetric n (now l) ⌝ }
+    requires { ⌜ j < n ⌝ }
+    ensures { λ r. ⌜ (now (l .exit) ≡ eliminate n j (now (l .entry))) × (r ≡ blockFinite n j (now (l .exit))) ⌝ }
+{
+    let root = sqrt(get(l, n, j, j));
+    put(l, n, j, j, root);
+    let mut column = [0.0; 48];
+    let row = divide_row(l, n, j, root, &mut column);
+    let rows = eliminate_rows(l, n, j, &column);
+    both(both(finite(root), row), rows)
 }
 
 // ---- at the end
@@ -213,31 +232,6 @@ pub fn count_up(p: &mut [usize])
 }
 
 // ---- whether stored values are finite
-
-fn row_finite(l: &[f64], n: usize, j: usize, i: usize) -> bool
-    requires { ⌜ Square n (now l) ⌝ }
-    requires { ⌜ (j ≤ n) × (i < n) ⌝ }
-    ensures { λ r. ⌜ r ≡ all j n (λ k. finite (at n (now (l .entry)) i k)) ⌝ }
-{
-    let mut ok = true;
-    for k in j..n {
-        ok = both(ok, finite(get(l, n, i, k)));
-    }
-    ok
-}
-
-// Rows and columns j to n - 1.
-pub fn block_finite(l: &[f64], n: usize, j: usize) -> bool
-    requires { ⌜ Square n (now l) ⌝ }
-    requires { ⌜ j ≤ n ⌝ }
-    ensures { λ r. ⌜ r ≡ blockFinite n j (now (l .entry)) ⌝ }
-{
-    let mut ok = true;
-    for i in j..n {
-        ok = both(ok, row_finite(l, n, j, i));
-    }
-    ok
-}
 
 pub fn both(a: bool, b: bool) -> bool
     ensures { λ r. ⌜ r ≡ (a && b) ⌝ }

@@ -1,83 +1,68 @@
-use mathlib.Core.Path.{_≡_, refl, sym, ap, _∙_}
-use mathlib.Core.List.{List}
-use Prim.Native.Nat.{ℕ, _+_, _-_, _≤_}
-use lib.ListN.{length}
-use lib.Ieee.{Float}
-use Rattle.arithmetic.specs.Loop.{range, loop-start, loop-turn, loop-end}
+use mathlib.Core.Path.{ap, _∙_}
 use Rattle.arithmetic.specs.Sqrt.{sqrt}
-use Rattle.matrix.specs.Matrix.{at, put}
+use Rattle.methods.proofs.Rows.{rows-eliminate}
 use borrow.Author.Needs.{needs}
-use Rattle.methods.specs.Statements.{eliminateRow, eliminate}
 use Rattle.statements.proofs.eliminate.Statement.{statement}
 use Rattle.statements.proofs.eliminate.Tie as tie
 
-abbrev Inv-loop : tie.InvT-loop
-Inv-loop l₀ n j r a i₀ l i = (a ≤ i) × (i ≤ n) × (length l ≡ length l₀) × (l ≡ range a i (eliminateRow n j) l₀)
-
-abbrev μ-loop : tie.MeasureT-loop
-μ-loop l₀ n j r a i₀ l i = n - i
-
-get-requires : tie.Need-get-requires Inv-loop μ-loop
+get-requires : tie.Need-get-requires
 get-requires c κs = search needs
 
-sqrt-requires : tie.Need-sqrt-requires Inv-loop μ-loop
+sqrt-requires : tie.Need-sqrt-requires
 sqrt-requires c κs = search needs
 
-put-requires : tie.Need-put-requires Inv-loop μ-loop
+put-requires : tie.Need-put-requires
 put-requires c κs = search needs
 
-add-a : tie.Need-add-a Inv-loop μ-loop
-add-a c = search needs
+slice-aggregate-divide-row : tie.Need-slice-aggregate-divide-row
+slice-aggregate-divide-row c = search needs
 
-loop-holds : tie.Need-loop-holds Inv-loop μ-loop
-loop-holds c = (search needs, search needs, refl, loop-start _ _ _)
+divide-row-requires : tie.Need-divide-row-requires
+divide-row-requires c κs = search needs
 
-eliminate-row-requires : tie.Need-eliminate-row-requires Inv-loop μ-loop
-eliminate-row-requires c κs = search needs
+slice-aggregate-eliminate-rows : tie.Need-slice-aggregate-eliminate-rows
+slice-aggregate-eliminate-rows c = search needs
 
-add-i : tie.Need-add-i Inv-loop μ-loop
-add-i c = search needs
+eliminate-rows-requires : tie.Need-eliminate-rows-requires
+eliminate-rows-requires c κs = search needs
 
-loop-less : tie.Need-loop-less Inv-loop μ-loop
-loop-less c = search needs
+finite-requires : tie.Need-finite-requires
+finite-requires c κs = search needs
 
-loop-again : tie.Need-loop-again Inv-loop μ-loop
-loop-again c =
-    let l = c .before .before .before .before .before .loop in
-    (search needs, search needs, search needs, loop-turn _ _ _ _ _ _ (l .inv .0) (l .inv .3) (c .before .before .eliminate-row .ensures))
+both-requires : tie.Need-both-requires
+both-requires c κs = search needs
 
-same-length : tie.Need-same-length Inv-loop μ-loop
+both-requires-2 : tie.Need-both-requires-2
+both-requires-2 c κs = search needs
+
+same-length : tie.Need-same-length
 same-length c = search needs
 
-root-put : (n j : ℕ) (l l₁ : List Float) (x r : Float) → x ≡ at n l j j → r ≡ sqrt x → l₁ ≡ put n l j j r → l₁ ≡ put n l j j (sqrt (at n l j j))
-root-put n j l l₁ x r ex er e = rw (er, ex) at e
-
-eliminate-is : (n j : ℕ) (l : List Float) → eliminate n j l ≡ range (j + 1) n (eliminateRow n j) (put n l j j (sqrt (at n l j j)))
-unfolding eliminate
-eliminate-is n j l = refl
-
-returns : tie.Need-returns Inv-loop μ-loop
+returns : tie.Need-returns
 returns c =
-    let l = c .before .loop in
-    let s = c .before .before .before .before in
-    let r = s .before .before in
-    let a = r .before .before .before .before .args in
-    loop-end _ _ _ _ _ _ (l .inv .1) (search needs) (l .inv .3) ∙ ap (range _ _ _) (root-put (a .n) (a .j) (a .l .now) _ _ _ (r .before .get .ensures) (r .sqrt .ensures) (s .put .ensures)) ∙ sym (eliminate-is _ _ _)
+    let r = c .before .before .before .before .before in
+    let d = r .before .before .before .before .before .before in
+    let p = d .before .before .before .before .before in
+    let q = p .before .before in
+    let t = q .before .before .before .before in
+    let er = q .sqrt .ensures ∙ ap sqrt (q .before .get .ensures) in
+    let D = d .divide-row .ensures in
+    let E = rows-eliminate (t .args .n) (t .args .j) (t .args .l .now) _ _ _ _ (q .sqrt .result) _ _ (t .pre .1 .1) (t .pre .0 .len) (t .pre .1 .0) er (p .put .ensures) (D .0) (D .1) (r .eliminate-rows .ensures) in
+    (E .0, c .both2 .ensures ∙ rw (c .before .both .ensures, c .before .before .finite .ensures) (E .1))
 
 pub eliminate-spec : {M : Type 1} → statement M
 eliminate-spec =
     tie.close
     (tie.spec
-    Inv-loop
-    μ-loop
     get-requires
     sqrt-requires
     put-requires
-    add-a
-    loop-holds
-    eliminate-row-requires
-    add-i
-    loop-less
-    loop-again
+    slice-aggregate-divide-row
+    divide-row-requires
+    slice-aggregate-eliminate-rows
+    eliminate-rows-requires
+    finite-requires
+    both-requires
+    both-requires-2
     same-length
     returns)

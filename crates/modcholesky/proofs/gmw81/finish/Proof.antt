@@ -10,6 +10,7 @@ use Rattle.methods.specs.Statements.{reorder}
 use Rattle.methods.specs.declared.decomposition.Mark.{Mark}
 use Rattle.methods.specs.declared.gmw81.Marks.{Marks}
 use Rattle.methods.proofs.GmwLaws.{finish-stays, finish-goes}
+use Rattle.methods.proofs.Refused.{unmarked-never}
 use Rattle.modcholesky.proofs.gmw81.finish.Statement.{statement}
 use Rattle.modcholesky.proofs.gmw81.finish.Tie as tie
 
@@ -29,10 +30,13 @@ marked-requires : tie.Need-marked-requires
 marked-requires c κs = search needs
 
 returns : tie.Need-returns
-returns c = stays _ _ _ _ _ _ _ _ (c .before .marked .ensures) (c .if1 .taken)
+returns c = λ w. stays _ _ w _ _ _ _ _ (c .before .marked .ensures) (c .if1 .taken)
 
 scale-requires : tie.Need-scale-requires
-scale-requires c κs = search needs
+scale-requires c κs =
+    let s = c .before .before .before .before .before .before .before .before .before in
+    let f = s .pre .1 .0 (unmarked-never (s .args .marks .refused) (sym (c .before .before .before .marked .ensures) ∙ c .before .before .if1 .left)) in
+    (search needs, (f, search needs))
 
 reorder-requires : tie.Need-reorder-requires
 reorder-requires c κs = search needs
@@ -52,18 +56,15 @@ same-length-3 c = search needs
 same-length-4 : tie.Need-same-length-4
 same-length-4 c = search needs
 
-same-length-5 : tie.Need-same-length-5
-same-length-5 c = search needs
-
 returns-2 : tie.Need-returns-2
 returns-2 c =
     let c₁ = c .before .before .before .before .before in
-    let c₂ = c₁ .before .before .before .before .before .before .before .before .before in
-    let c₃ = c₂ .before .before .before .before in
+    let c₂ = c₁ .before .before .before .before .before .before .before in
+    let c₃ = c₂ .before .before .before in
     let c₄ = c₃ .before in
-    let c₅ = c₄ .before .before .before .before .before .before .before in
+    let c₅ = c₄ .before .before .before .before .before .before in
     let a = c₅ .args in
-    goes (a .n) (a .l .now) (a .c .now) (a .d .now) (a .e .now) (a .p .now) (a .marks) _ _ _ _ _
+    λ w. goes (a .n) (a .l .now) w (a .d .now) (a .e .now) (a .p .now) (a .marks) _ _ _ _ _
     (c₄ .marked .ensures) (c₃ .if1 .left) (c₂ .scale .ensures) (c₁ .reorder .ensures) (c .mark .ensures)
 
 pub finish-spec : {M : Type 1} → statement M
@@ -79,5 +80,4 @@ finish-spec =
     same-length-2
     same-length-3
     same-length-4
-    same-length-5
     returns-2)

@@ -5,7 +5,7 @@ use Rattle.matrix.proofs.CheckLaws.{Accepted, accepted, not-accepted}
 use Rattle.methods.specs.Calls.{factor-checks}
 use Rattle.methods.specs.Factor.{gmw81}
 use Rattle.methods.proofs.Answers.{refuses, answers-gmw81}
-use Rattle.methods.proofs.CallLaws.{Lengths, factor-accepted}
+use Rattle.methods.proofs.CallLaws.{Lengths, factor-accepted, factor-finite}
 use Rattle.modcholesky.proofs.gmw81.mod_cholesky_gmw81.Statement.{statement}
 use Rattle.modcholesky.proofs.gmw81.mod_cholesky_gmw81.Tie as tie
 
@@ -51,14 +51,18 @@ part-diag-end c = operands (c .before .before .before) .square .small
 
 run-requires : tie.Need-run-requires
 run-requires c κs =
-    let L = operands (c .before .before .before .before .before .before) in
+    let c₁ = c .before .before .before .before .before .before in
+    let L = operands c₁ in
     let small = L .square .small in (
       L .square,
       (
-        record { len = L .l-is; small = small },
+        factor-finite _ _ _ _ _ _ (accepts c₁),
         (
-          record { len = L .work-is; small = small },
-          (omega (arith, c .before .before .before .d .given), omega (arith, c .before .before .diag .given), L .e-is, L .p-is, L .some),
+          record { len = L .l-is; small = small },
+          (
+            record { len = L .work-is; small = small },
+            (omega (arith, c .before .before .before .d .given), omega (arith, c .before .before .diag .given), L .e-is, L .p-is, L .some),
+          ),
         ),
       ),
     )

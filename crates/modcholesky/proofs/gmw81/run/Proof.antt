@@ -5,6 +5,7 @@ use native.Mathlib.Omega.{arith}
 use borrow.Author.Needs.{needs}
 use lib.Ieee.{Float}
 use Rattle.arithmetic.specs.Loop.{range}
+use Rattle.matrix.specs.Checks.{AllFinite}
 use Rattle.matrix.specs.Plain.{AllBelow}
 use Rattle.methods.specs.Calls.{Call, answered}
 use Rattle.methods.specs.Gmw81.{Run, state, start, step, finish, Finished, run, mod-cholesky-gmw81, offDiagonalMax, deltaOf, betaOf}
@@ -12,6 +13,8 @@ use Rattle.methods.specs.Result.{handBack}
 use Rattle.methods.specs.Statements.{diagonalMax}
 use Rattle.methods.specs.declared.decomposition.Mark.the-variants.{Never}
 use Rattle.methods.specs.declared.gmw81.Marks.{Marks}
+use Rattle.methods.proofs.FiniteEntries.{FiniteEntries}
+use Rattle.methods.proofs.GmwFinite.{FiniteRun, steps-finite}
 use Rattle.methods.proofs.GmwLaws.{finish-order, steps-rows}
 use Rattle.methods.proofs.Pivots.{Rows}
 use Rattle.modcholesky.proofs.gmw81.run.Statement.{statement}
@@ -30,6 +33,11 @@ rows : (n : ℕ) (a : List Float) (delta beta : Float) (s₁ s₂ : Run) → s�
 rows n a delta beta s₁ s₂ e₁ e₂ =
     let R : Rows n (s₂ .p) = subst (λ (s : Run). Rows n (s .p)) (sym (e₂ ∙ ap (range 0 n (step n delta beta)) e₁)) (steps-rows n delta beta a) in
     R .below
+
+finites : (n : ℕ) (a : List Float) (delta beta : Float) (s₁ s₂ : Run) → FiniteEntries n a → s₁ ≡ start n a → s₂ ≡ range 0 n (step n delta beta) s₁ → s₂ .refused ≡ Never → AllFinite n (s₂ .l)
+finites n a delta beta s₁ s₂ F e₁ e₂ e =
+    let R : FiniteRun n s₂ = subst (FiniteRun n) (sym (e₂ ∙ ap (range 0 n (step n delta beta)) e₁)) (steps-finite n delta beta a F) in
+    R e .each
 
 ran : (n : ℕ) (a : List Float) (diag-max off-diag-max delta beta : Float) (s₁ : Run) (l c d e : List Float) (p : List ℕ) (m : Marks) (l' e' : List Float) (m' : Marks) (r : Call)
     → diag-max ≡ diagonalMax n a → off-diag-max ≡ offDiagonalMax n a → delta ≡ deltaOf diag-max off-diag-max → beta ≡ betaOf n diag-max off-diag-max
@@ -62,19 +70,23 @@ steps-requires c κs =
 
 finish-requires : tie.Need-finish-requires
 finish-requires c κs =
-    let c₁ = c .before .before .before .before .before .before .before .before .before .before .before .before .before .before .before .before .before .before in
-    let c₂ = c₁ .before in
-    let c₃ = c₂ .before .before .before .before .before .before .before .before .before .before .before .before .before .before .before .before in
-    let c₄ = c₃ .before .before .before .before .before .before .before .before .before .before .before .before .before .before .before .before .before in
-    let h = steps-requires c₂ κs in
-    let a = c₄ .args in
-    let k = c₁ .steps .kept in
-    (omega (arith, h, k), (omega (arith, h, k), (omega (arith, h, k, c₄ .pre), rows (a .n) (a .a .now) _ _ _ _ (c₃ .begin .ensures) (c₁ .steps .ensures))))
+    let c₁ = c .before .before .before .before .before .before .before .before .before .before .before .before .before .before .before .before .before in
+    let c₂ = c₁ .before .before .before .before .before .before .before .before .before .before .before .before .before .before .before .before .before in
+    let c₃ = c₂ .before .before .before .before .before .before .before .before .before .before .before .before .before .before .before .before .before in
+    let a = c₃ .args in
+    let h = c₂ .begin .kept in
+    let k = c₁ .steps .kept in (
+      omega (arith, h, k, c₃ .pre),
+      (
+        finites (a .n) (a .a .now) _ _ _ _ (record { entries = c₃ .pre .0 .len; each = c₃ .pre .1 .0 }) (c₂ .begin .ensures) (c₁ .steps .ensures),
+        (omega (arith, h, k, c₃ .pre), rows (a .n) (a .a .now) _ _ _ _ (c₂ .begin .ensures) (c₁ .steps .ensures)),
+      ),
+    )
 
 hand-back-requires : tie.Need-hand-back-requires
 hand-back-requires c κs =
-    let c₁ = c .before .before .before .before .before .before .before .before .before .before .before .before .before .before in
-    let c₂ = c₁ .before .before .before .before .before .before .before .before .before .before .before .before .before .before .before .before .before .before .before in
+    let c₁ = c .before .before .before .before .before .before .before .before .before .before .before .before in
+    let c₂ = c₁ .before .before .before .before .before .before .before .before .before .before .before .before .before .before .before .before .before .before in
     let c₃ = c₂ .before .before .before .before .before .before .before .before .before .before .before .before .before .before .before .before .before in
     let c₄ = c₃ .before .before .before .before .before .before .before .before .before .before .before .before .before .before .before .before .before in
     omega (arith, c₁ .finish .kept, c₂ .steps .kept, c₃ .begin .kept, c₄ .pre)
@@ -82,56 +94,56 @@ hand-back-requires c κs =
 same-length : tie.Need-same-length
 same-length c =
     let c₁ = c .before .before .before .before .before .before .before .before in
-    let c₂ = c₁ .before .before .before .before .before .before .before .before .before .before .before .before .before .before .before in
-    let c₃ = c₂ .before .before .before .before .before .before .before .before .before .before .before .before .before .before .before .before .before .before .before in
+    let c₂ = c₁ .before .before .before .before .before .before .before .before .before .before .before .before .before in
+    let c₃ = c₂ .before .before .before .before .before .before .before .before .before .before .before .before .before .before .before .before .before .before in
     let c₄ = c₃ .before .before .before .before .before .before .before .before .before .before .before .before .before .before .before .before .before in
     omega (arith, c₁ .hand-back .kept, c₂ .finish .kept, c₃ .steps .kept, c₄ .begin .kept)
 
 same-length-2 : tie.Need-same-length-2
 same-length-2 c =
     let c₁ = c .before .before .before .before .before .before .before .before in
-    let c₂ = c₁ .before .before .before .before .before .before .before .before .before .before .before .before .before .before .before in
-    let c₃ = c₂ .before .before .before .before .before .before .before .before .before .before .before .before .before .before .before .before .before .before .before in
+    let c₂ = c₁ .before .before .before .before .before .before .before .before .before .before .before .before .before in
+    let c₃ = c₂ .before .before .before .before .before .before .before .before .before .before .before .before .before .before .before .before .before .before in
     let c₄ = c₃ .before .before .before .before .before .before .before .before .before .before .before .before .before .before .before .before .before in
     omega (arith, c₁ .hand-back .kept, c₂ .finish .kept, c₃ .steps .kept, c₄ .begin .kept)
 
 same-length-3 : tie.Need-same-length-3
 same-length-3 c =
     let c₁ = c .before .before .before .before .before .before .before .before in
-    let c₂ = c₁ .before .before .before .before .before .before .before .before .before .before .before .before .before .before .before in
-    let c₃ = c₂ .before .before .before .before .before .before .before .before .before .before .before .before .before .before .before .before .before .before .before in
+    let c₂ = c₁ .before .before .before .before .before .before .before .before .before .before .before .before .before in
+    let c₃ = c₂ .before .before .before .before .before .before .before .before .before .before .before .before .before .before .before .before .before .before in
     let c₄ = c₃ .before .before .before .before .before .before .before .before .before .before .before .before .before .before .before .before .before in
     omega (arith, c₁ .hand-back .kept, c₂ .finish .kept, c₃ .steps .kept, c₄ .begin .kept)
 
 same-length-4 : tie.Need-same-length-4
 same-length-4 c =
     let c₁ = c .before .before .before .before .before .before .before .before in
-    let c₂ = c₁ .before .before .before .before .before .before .before .before .before .before .before .before .before .before .before in
-    let c₃ = c₂ .before .before .before .before .before .before .before .before .before .before .before .before .before .before .before .before .before .before .before in
+    let c₂ = c₁ .before .before .before .before .before .before .before .before .before .before .before .before .before in
+    let c₃ = c₂ .before .before .before .before .before .before .before .before .before .before .before .before .before .before .before .before .before .before in
     let c₄ = c₃ .before .before .before .before .before .before .before .before .before .before .before .before .before .before .before .before .before in
     omega (arith, c₁ .hand-back .kept, c₂ .finish .kept, c₃ .steps .kept, c₄ .begin .kept)
 
 same-length-5 : tie.Need-same-length-5
 same-length-5 c =
     let c₁ = c .before .before .before .before .before .before .before .before in
-    let c₂ = c₁ .before .before .before .before .before .before .before .before .before .before .before .before .before .before .before in
-    let c₃ = c₂ .before .before .before .before .before .before .before .before .before .before .before .before .before .before .before .before .before .before .before in
+    let c₂ = c₁ .before .before .before .before .before .before .before .before .before .before .before .before .before in
+    let c₃ = c₂ .before .before .before .before .before .before .before .before .before .before .before .before .before .before .before .before .before .before in
     let c₄ = c₃ .before .before .before .before .before .before .before .before .before .before .before .before .before .before .before .before .before in
     omega (arith, c₁ .hand-back .kept, c₂ .finish .kept, c₃ .steps .kept, c₄ .begin .kept)
 
 same-length-6 : tie.Need-same-length-6
 same-length-6 c =
     let c₁ = c .before .before .before .before .before .before .before .before in
-    let c₂ = c₁ .before .before .before .before .before .before .before .before .before .before .before .before .before .before .before in
-    let c₃ = c₂ .before .before .before .before .before .before .before .before .before .before .before .before .before .before .before .before .before .before .before in
+    let c₂ = c₁ .before .before .before .before .before .before .before .before .before .before .before .before .before in
+    let c₃ = c₂ .before .before .before .before .before .before .before .before .before .before .before .before .before .before .before .before .before .before in
     let c₄ = c₃ .before .before .before .before .before .before .before .before .before .before .before .before .before .before .before .before .before in
     omega (arith, c₁ .hand-back .kept, c₂ .finish .kept, c₃ .steps .kept, c₄ .begin .kept)
 
 returns : tie.Need-returns
 returns c =
     let c₁ = c .before .before .before .before .before .before .before .before in
-    let c₂ = c₁ .before .before .before .before .before .before .before .before .before .before .before .before .before .before .before in
-    let c₃ = c₂ .before .before .before .before .before .before .before .before .before .before .before .before .before .before .before .before .before .before .before in
+    let c₂ = c₁ .before .before .before .before .before .before .before .before .before .before .before .before .before in
+    let c₃ = c₂ .before .before .before .before .before .before .before .before .before .before .before .before .before .before .before .before .before .before in
     let c₄ = c₃ .before .before .before .before .before .before .before .before .before .before .before .before .before .before .before .before .before in
     let c₅ = c₄ .before .before .before .before .before .before in
     let c₆ = c₅ .before in
@@ -141,7 +153,7 @@ returns c =
     let a = c₉ .args in
     ran (a .n) (a .a .now) _ _ _ _ _ _ _ _ _ _ _ _ _ _ _
     (c₈ .diagonal-max .ensures) (c₇ .off-diagonal-max .ensures) (c₆ .delta-of .ensures) (c₅ .beta-of .ensures)
-    (c₄ .begin .ensures) (c₃ .steps .ensures) (c₂ .finish .ensures) (c₁ .hand-back .ensures)
+    (c₄ .begin .ensures) (c₃ .steps .ensures) (c₂ .finish .ensures _) (c₁ .hand-back .ensures)
 
 pub run-spec : {M : Type 1} → statement M
 run-spec =

@@ -14,7 +14,8 @@ use Rattle.matrix.specs.Matrix.{put}
 use Rattle.matrix.specs.Table.{table}
 use Rattle.methods.specs.Gmw81.{doutOf, unitLower, product, scaledFinite}
 use Rattle.methods.specs.Statements.{lowerTriangle, all}
-use Rattle.methods.proofs.Scaled.{scaled-finite-is}
+use Rattle.methods.proofs.FiniteEntries.{FiniteEntries, unit-lower-finite}
+use Rattle.methods.proofs.Scaled.{scaleRow, scaled-is, scaled-finite-is}
 use Rattle.modcholesky.proofs.gmw81.scale.Statement.{statement}
 use Rattle.modcholesky.proofs.gmw81.scale.Tie as tie
 
@@ -22,15 +23,16 @@ unit-lower-is : (n : ℕ) (l : List Float) → unitLower n l ≡ lowerTriangle n
 unfolding unitLower
 unit-lower-is n l = refl
 
-scaled : (n : ℕ) (l d r l₁ l₂ c l₃ : List Float) (b₁ b₂ ok : Bool) → 0 < n → length d ≡ n → length c ≡ n * n
-    → r ≡ table (length d) (λ i. sqrt (getD d i nan)) → l₁ ≡ range 0 n (λ i m. put n m i i one) l → l₂ ≡ lowerTriangle n l₁
-    → ((d' : List Float) → length d' ≡ n → r ≡ table n (λ i. sqrt (getD d' i nan)) → c ≡ product n l₂ (doutOf n d')) → l₃ ≡ c
+scaled : (n : ℕ) (l d r l₁ l₂ l₃ : List Float) (b₁ b₂ ok : Bool) → 0 < n → length d ≡ n → FiniteEntries n l → length l₃ ≡ n * n
+    → r ≡ table (length d) (λ i. sqrt (getD d i nan)) → l₁ ≡ range 0 n (λ i m. put n m i i one) l → l₂ ≡ lowerTriangle n l₁ → l₃ ≡ range 0 n (scaleRow n r) l₂
     → b₁ ≡ all 0 (length r) (λ i. finite (getD r i nan)) → b₂ ≡ all 0 (length l₃) (λ i. finite (getD l₃ i nan)) → ok ≡ (b₁ && b₂)
     → (l₃ ≡ product n (unitLower n l) (doutOf n d)) × (ok ≡ scaledFinite n (doutOf n d) (product n (unitLower n l) (doutOf n d)))
-scaled n l d r l₁ l₂ c l₃ b₁ b₂ ok pn hd hc er e₁ e₂ ec e₃ f₁ f₂ f =
+scaled n l d r l₁ l₂ l₃ b₁ b₂ ok pn hd F h₃ er e₁ e₂ e₃ f₁ f₂ f =
     let e : r ≡ table n (λ i. sqrt (getD d i nan)) = er ∙ ap (λ (k : ℕ). table k (λ i. sqrt (getD d i nan))) hd in
-    let g : l₃ ≡ product n (unitLower n l) (doutOf n d) = e₃ ∙ ec d hd e ∙ ap (λ (m : List Float). product n m (doutOf n d)) (e₂ ∙ ap (lowerTriangle n) e₁ ∙ sym (unit-lower-is n l)) in
-    (g, f ∙ rw (f₁, f₂) (scaled-finite-is n d r pn e l₃ (ap length e₃ ∙ hc)) ∙ ap (scaledFinite n (doutOf n d)) g)
+    let U = unit-lower-finite n l F in
+    let g : l₃ ≡ product n (unitLower n l) (doutOf n d) =
+    e₃ ∙ ap (range 0 n (scaleRow n r)) (e₂ ∙ ap (lowerTriangle n) e₁ ∙ sym (unit-lower-is n l)) ∙ scaled-is n (unitLower n l) r d e (U .entries) (U .each) in
+    (g, f ∙ rw (f₁, f₂) (scaled-finite-is n d r pn e l₃ h₃) ∙ ap (scaledFinite n (doutOf n d)) g)
 
 roots-requires : tie.Need-roots-requires
 roots-requires c κs = search needs
@@ -41,11 +43,8 @@ unit-diagonal-requires c κs = search needs
 lower-triangle-requires : tie.Need-lower-triangle-requires
 lower-triangle-requires c κs = search needs
 
-product-requires : tie.Need-product-requires
-product-requires c κs = search needs
-
-copy-requires : tie.Need-copy-requires
-copy-requires c κs = search needs
+scale-rows-requires : tie.Need-scale-rows-requires
+scale-rows-requires c κs = search needs
 
 list-finite-requires : tie.Need-list-finite-requires
 list-finite-requires c κs = search needs
@@ -62,19 +61,16 @@ same-length c = search needs
 same-length-2 : tie.Need-same-length-2
 same-length-2 c = search needs
 
-same-length-3 : tie.Need-same-length-3
-same-length-3 c = search needs
-
 returns : tie.Need-returns
 returns c =
     let c₁ = c .before .before .before .before .before .before .before in
     let c₂ = c₁ .before .before .before .before .before in
-    let c₃ = c₂ .before .before .before .before .before .before in
+    let c₃ = c₂ .before .before .before .before in
     let c₄ = c₃ .before .before .before .before in
-    let c₅ = c₄ .before .before .before .before in
-    let s = c₅ .before .before .before .before .before in
-    scaled (s .args .n) (s .args .l .now) (s .args .d .now) _ _ _ _ _ _ _ _ (s .pre .1 .1 .1) (s .pre .1 .1 .0) (omega (arith, c₂ .product .kept, s .pre))
-    (c₅ .roots .ensures) (c₄ .unit-diagonal .ensures) (c₃ .lower-triangle .ensures) (c₂ .product .ensures) (c₁ .copy .ensures)
+    let s = c₄ .before .before .before .before in
+    scaled (s .args .n) (s .args .l .now) (s .args .d .now) _ _ _ _ _ _ _ (s .pre .1 .1 .1) (s .pre .1 .1 .0) (record { entries = s .pre .0 .len; each = s .pre .1 .0 })
+    (omega (arith, c₁ .scale-rows .kept, c₂ .lower-triangle .kept, c₃ .unit-diagonal .kept, s .pre .0))
+    (c₄ .roots .ensures) (c₃ .unit-diagonal .ensures) (c₂ .lower-triangle .ensures) (c₁ .scale-rows .ensures)
     (c .before .before .before .list-finite .ensures) (c .before .list-finite2 .ensures) (c .both .ensures)
 
 pub scale-spec : {M : Type 1} → statement M
@@ -84,12 +80,10 @@ scale-spec =
     roots-requires
     unit-diagonal-requires
     lower-triangle-requires
-    product-requires
-    copy-requires
+    scale-rows-requires
     list-finite-requires
     list-finite-requires-2
     both-requires
     same-length
     same-length-2
-    same-length-3
     returns)

@@ -2,11 +2,12 @@ use native.Mathlib.Omega.{arith}
 use borrow.Author.Needs.{needs}
 use lib.ListN.{length}
 use Rattle.matrix.proofs.CheckLaws.{Accepted, accepted, not-accepted}
+use Rattle.methods.specs.Elimination.{Symmetric}
 use Rattle.methods.specs.Calls.{factor-checks}
 use Rattle.methods.specs.Factor.{se}
 use Rattle.methods.specs.declared.schnabel_eskow.Variant.the-variants.{Se90}
 use Rattle.methods.proofs.Answers.{refuses, answers-se}
-use Rattle.methods.proofs.CallLaws.{Lengths, factor-accepted}
+use Rattle.methods.proofs.CallLaws.{Lengths, factor-accepted, factor-symmetric}
 use Rattle.modcholesky.proofs.se90.mod_cholesky_se90.Statement.{statement}
 use Rattle.modcholesky.proofs.se90.mod_cholesky_se90.Tie as tie
 
@@ -32,6 +33,9 @@ operands : (c : tie.Else1) → let a = c .before .before .before .before .before
     Lengths (a .n) (a .a .now) (length (a .l .now)) (length (a .work .now)) (length (a .e .now)) (length (a .p .now))
 operands c = factor-accepted _ _ _ _ _ _ (accepts c)
 
+symmetric : (c : tie.Else1) → let a = c .before .before .before .before .before .before .before .before .args in Symmetric (a .n) (a .a .now)
+symmetric c = factor-symmetric _ _ _ _ _ _ (c .before .before .before .before .before .before .before .shared-slice-known .given) (accepts c)
+
 tolerances-requires : tie.Need-tolerances-requires
 tolerances-requires c κs = search needs
 
@@ -55,14 +59,15 @@ part-diag-end c = operands (c .before .before .before .before .before) .square .
 
 mod-cholesky-se-requires : tie.Need-mod-cholesky-se-requires
 mod-cholesky-se-requires c κs =
-    let L = operands (c .before .before .before .before .before .before .before) in
+    let t = c .before .before .before .before .before .before .before in
+    let L = operands t in
     let small = L .square .small in (
       L .square,
       (
         record { len = L .l-is; small = small },
         (
           record { len = L .work-is; small = small },
-          (L .e-is, omega (arith, c .before .before .g .given), omega (arith, c .before .diag .given), L .p-is, L .some),
+          (L .e-is, omega (arith, c .before .before .g .given), omega (arith, c .before .diag .given), L .p-is, L .some, symmetric t),
         ),
       ),
     )

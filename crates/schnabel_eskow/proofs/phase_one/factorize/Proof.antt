@@ -15,9 +15,6 @@ use Rattle.schnabel_eskow.proofs.phase_one.factorize.Tie as tie
 eliminate-requires : tie.Need-eliminate-requires
 eliminate-requires c κs = search needs
 
-block-finite-requires : tie.Need-block-finite-requires
-block-finite-requires c κs = search needs
-
 mark-requires : tie.Need-mark-requires
 mark-requires c κs = search needs
 
@@ -31,8 +28,8 @@ unfolding factorize
 factorized n j l l' ok m r el eo em e g p = rw (em, eo, el)
 
 returns : tie.Need-returns
-returns c = factorized _ _ _ _ _ _ _ (c .before .before .before .before .before .eliminate .ensures) (c .before .block-finite .ensures) (c .mark .ensures)
+returns c = factorized _ _ _ _ _ _ _ (c .before .before .before .eliminate .ensures .0) (c .before .before .before .eliminate .ensures .1) (c .mark .ensures)
 
 pub factorize-spec : {M : Type 1} → statement M
 factorize-spec =
-    tie.close (tie.spec eliminate-requires block-finite-requires mark-requires same-length returns)
+    tie.close (tie.spec eliminate-requires mark-requires same-length returns)

@@ -85,7 +85,7 @@ step-at-requires : tie.Need-step-at-requires
 step-at-requires c κs =
     let c8 = c .before .before .before .before .before .before .before .before in
     let c16 = c8 .before .before .before .before .before .before .before .before in
-    (search needs, (search needs, diagonal-pick _ _ _ _ (c .before .before .before .before .search-diagonal .ensures) (c16 .before .pre .1 .2)))
+    (search needs, (search needs, diagonal-pick _ _ _ _ (c .before .before .before .before .search-diagonal .ensures) (c16 .before .pre .1 .2), search needs))
 
 same-length-2 : tie.Need-same-length-2
 same-length-2 c = search needs

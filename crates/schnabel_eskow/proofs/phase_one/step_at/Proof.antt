@@ -12,6 +12,7 @@ use Rattle.methods.specs.declared.schnabel_eskow.Progress.{Progress}
 use Rattle.methods.specs.declared.schnabel_eskow.Tolerances.{Tolerances}
 use Rattle.methods.specs.declared.schnabel_eskow.Variant.{Variant}
 use Rattle.methods.proofs.SeLaws.{stepAt-is}
+use Rattle.methods.proofs.Symmetric.{pivot-keeps}
 use Rattle.schnabel_eskow.proofs.phase_one.step_at.Statement.{statement}
 use Rattle.schnabel_eskow.proofs.phase_one.step_at.Tie as tie
 
@@ -67,7 +68,10 @@ returns c =
     leaves _ _ _ _ _ _ _ _ _ _ _ _ _ (b .0) (b .1) m _ (tested _ _ _ _ _ _ _ _ _ (b .0) (c .before .before .before .tmp-of .ensures) (c .before .before .leaves-after .ensures) (c .before .if1 .taken)) (c .leave .ensures)
 
 factorize-requires : tie.Need-factorize-requires
-factorize-requires c κs = search needs
+factorize-requires c κs =
+    let p = c .before .before .before .before .before .before .before .before .before .before in
+    let s = p .before .before .before .before .before in
+    (search needs, (search needs, pivot-keeps _ _ _ _ _ (s .pre .0) (s .pre .1 .2) (s .pre .1 .1) (p .pivot .ensures .0)))
 
 same-length-3 : tie.Need-same-length-3
 same-length-3 c = search needs

@@ -1,16 +1,15 @@
--- Sums of zeros from +0.0 are +0.0, and a product with a zero is a zero where the other factor is finite.
+-- +0.0 plus a zero is +0.0, and a product with a zero is a zero where the other factor is finite.
 use mathlib.Core.Path.{_≡_, refl, ap}
 use mathlib.Core.Bool.{Bool, true, false, false≢true}
-use Prim.Native.Nat.{ℕ, zero, suc, _≤_, _<_}
+use Prim.Native.Nat.{zero, suc}
 use lib.Dec.{T}
 use lib.IntN.{pos}
 use lib.Ieee.{Float, nan, inf, fin, binary64, add, sum, round, fits, ofBits}
 use lib.Ieee.Fits.{mul-fits}
 use lib.Ieee.Scale.{finite}
 use Rattle.arithmetic.specs.Double.{plus-zero, _⊕_, _⊗_}
-use Rattle.arithmetic.specs.Loop.{range, range-ind}
 use Rattle.arithmetic.specs.Same.{mul-commutes, zero-exp}
 use Rattle.methods.proofs.Tests.{isZero, mul-zeros}
 
 -- +0.0 or -0.0
 pub record Zero (x : Float) : Type 0 where
@@ -43,6 +42,3 @@ plus-zero-plus false = refl
 
 pub add-zero : (x : Float) → Zero x → plus-zero ⊕ x ≡ plus-zero
 add-zero x Z = rw (Z .is) (plus-zero-plus (Z .sign))
-
-pub sum-zero : (a b : ℕ) (f : ℕ → Float) → a ≤ b → ((t : ℕ) → a ≤ t → t < b → Zero (f t)) → range a b (λ t sum. sum ⊕ f t) plus-zero ≡ plus-zero
-sum-zero a b f h z = range-ind (λ t x. x ≡ plus-zero) a b (λ t sum. sum ⊕ f t) plus-zero h refl (λ t p q x e. rw e (add-zero (f t) (z t p q)))

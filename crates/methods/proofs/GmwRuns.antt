@@ -9,13 +9,13 @@ use Rattle.arithmetic.specs.Double.{_⊖_}
 use Rattle.arithmetic.specs.Loop.{range, range-ind}
 use Rattle.matrix.specs.Matrix.{at}
 use Rattle.matrix.proofs.Bijection.{Is, is, holds, fails}
 use Rattle.methods.specs.Marks.{marked}
 use Rattle.methods.specs.Statements.{diagonalMax, pivotMatrix}
 use Rattle.methods.specs.Gmw81.{Run, start, divideRow, updateDiagonal, c₂Of, djOf, storedFinite, stepAt, step, finish, run, offDiagonalMax, deltaOf, betaOf}
 use Rattle.methods.specs.declared.decomposition.Mark.the-variants.{Never}
 use Rattle.methods.proofs.GmwLaws.{step-at-is, step-stays, step-goes, finish-stays}
 use Rattle.methods.proofs.Pivots.{pick-below}
-use Rattle.results.proofs.Marks.{NotRefused, goes-on, unmarked-never}
+use Rattle.methods.proofs.Refused.{NotRefused, goes-on, unmarked-never}
 
 -- ---- P j holds before step j: of a run that the step changes, and of a refused one
 pub record KeptBySteps (n : ℕ) (delta beta : Float) (P : ℕ → Run → Type 0) : Type 0 where

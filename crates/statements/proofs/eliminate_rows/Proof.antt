@@ -1,0 +1,76 @@
+use mathlib.Core.Path.{_≡_, refl}
+use Prim.Native.Nat.{_-_, _≤_, _<_}
+use native.Mathlib.Omega.{arith}
+use lib.ListN.{length}
+use Rattle.methods.specs.Elimination.{RowsEliminated}
+use Rattle.methods.proofs.Rows.{rows-start, rows-more, rows-end}
+use borrow.Author.Needs.{needs}
+use Rattle.statements.proofs.eliminate_rows.Statement.{statement}
+use Rattle.statements.proofs.eliminate_rows.Tie as tie
+
+abbrev Inv-loop : tie.InvT-loop
+Inv-loop l₀ n j column ok₀ a i₀ l ok i = (j < i) × (i ≤ n) × (length l ≡ length l₀) × RowsEliminated n j column l₀ i l ok
+
+abbrev μ-loop : tie.MeasureT-loop
+μ-loop l₀ n j column ok₀ a i₀ l ok i = n - i
+
+add-a : tie.Need-add-a Inv-loop μ-loop
+add-a c = search needs
+
+loop-holds : tie.Need-loop-holds Inv-loop μ-loop
+loop-holds c = (omega arith, search needs, refl, rows-start _ _ _ _ (c .before .before .pre .0 .len))
+
+mul-put : tie.Need-mul-put Inv-loop μ-loop
+mul-put c = search needs
+
+shared-slice-read-put : tie.Need-shared-slice-read-put Inv-loop μ-loop
+shared-slice-read-put c = search needs
+
+put-requires : tie.Need-put-requires Inv-loop μ-loop
+put-requires c κs = search needs
+
+subtract-multiple-requires : tie.Need-subtract-multiple-requires Inv-loop μ-loop
+subtract-multiple-requires c κs = search needs
+
+both-requires : tie.Need-both-requires Inv-loop μ-loop
+both-requires c κs = search needs
+
+add-i : tie.Need-add-i Inv-loop μ-loop
+add-i c = search needs
+
+loop-less : tie.Need-loop-less Inv-loop μ-loop
+loop-less c = search needs
+
+loop-again : tie.Need-loop-again Inv-loop μ-loop
+loop-again c =
+    let s = c .before .before .before in
+    let p = s .before .before .before .before in
+    let l = p .before .before .before .before .loop in
+    (omega arith, search needs, search needs, rows-more _ _ _ _ (l .i) (l .l) _ _ (l .ok) (l .inv .0) (omega arith) (l .inv .3) (p .put .ensures) _ _ (s .subtract-multiple .ensures) (c .both .ensures))
+
+same-length : tie.Need-same-length Inv-loop μ-loop
+same-length c = search needs
+
+returns : tie.Need-returns Inv-loop μ-loop
+returns c =
+    let l = c .before .loop in
+    rows-end _ _ _ _ _ _ _ (l .inv .1) (omega arith) (l .inv .3)
+
+pub eliminate-rows-spec : {M : Type 1} → statement M
+eliminate-rows-spec =
+    tie.close
+    (tie.spec
+    Inv-loop
+    μ-loop
+    add-a
+    loop-holds
+    mul-put
+    shared-slice-read-put
+    put-requires
+    subtract-multiple-requires
+    both-requires
+    add-i
+    loop-less
+    loop-again
+    same-length
+    returns)
