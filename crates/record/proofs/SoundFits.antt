@@ -1,0 +1,99 @@
+-- The answer to any list of bytes fits an answer record.
+use mathlib.Core.Path.{_≡_, refl, subst}
+use mathlib.Core.Bool.{true}
+use mathlib.Core.List.{List}
+use Prim.Native.Nat.{ℕ, _*_, _/_, _%_, _≤_, _<_}
+use native.Mathlib.Nat.{div-add-mod', div-lt-iff-lt-mul, mod-lt}
+use native.Mathlib.Omega.{arith}
+use lib.ListN.{length, getD}
+use lib.Ieee.{Float, nan}
+use lib.Ieee.Scale.{finite}
+use Rattle.arithmetic.specs.Outcome.{place, complete}
+use Rattle.arithmetic.specs.declared.outcome.Outcome.{Outcome}
+use Rattle.arithmetic.specs.declared.outcome.Outcome.the-variants.{StoredNotFinite}
+use Rattle.matrix.specs.Matrix.{at, square-small}
+use Rattle.matrix.proofs.Bijection.{is, holds, fails}
+use Rattle.methods.specs.Result.{Result, outcomeOf}
+use Rattle.methods.specs.Gmw81 as gmw
+use Rattle.methods.specs.Gmw81.{mod-cholesky-gmw81}
+use Rattle.methods.specs.Se as schnabel
+use Rattle.methods.specs.Se.{mod-cholesky-se}
+use Rattle.methods.specs.Factor.{Method, gmw81, se, factor, tolerances}
+use Rattle.methods.specs.Calls as calls
+use Rattle.methods.specs.declared.schnabel_eskow.Tolerances.{Tolerances}
+use Rattle.methods.specs.declared.decomposition.Mark.{Mark}
+use Rattle.methods.specs.declared.decomposition.Mark.the-variants.{Never, Step}
+use Rattle.results.specs.Results.{Sound, MarksBelow}
+use Rattle.results.proofs.Theorem.{results}
+use Rattle.record.specs.MatrixRecord.{sizeOf, methodOf, matrixOf, record-checks}
+use Rattle.record.specs.Record.{refused, result-of, answer}
+use Rattle.record.specs.Writing.{EachFinite, PlaceFits, Fits}
+use Rattle.record.proofs.Accepted.{checks-accepted}
+use Rattle.record.proofs.Symmetric.{matrix-accepted}
+use Rattle.record.proofs.Answers.{answer-complete, answer-refused}
+use Rattle.record.proofs.AnswerLength.{answer-fits}
+use Rattle.record.proofs.Places.{record-placed}
+
+entries-finite : (n : ℕ) (l : List Float) → 0 < n → length l ≡ n * n → ((i j : ℕ) → i < n → j < n → finite (at n l i j) ≡ true) → EachFinite l
+entries-finite n l np e h k q =
+    let lt : k < n * n = omega arith in
+    subst (λ (x : ℕ). finite (getD l x nan) ≡ true) (div-add-mod' k n) (h (k / n) (k % n) (div-lt-iff-lt-mul np .1 lt) (mod-lt k np))
+
+sound-fits : (n : ℕ) (r : Result) → 0 < n → n ≤ 48 → Sound n r → PlaceFits (place (r .decomposition .outcome)) → Fits r
+sound-fits n r np h s t = record {
+  marks = (λ j e. omega (arith, s .marks .tied-below j e), λ j e. omega (arith, s .marks .phase2-below j e));
+  placed = t;
+  order = λ k q. omega (arith, s .permutation .len, s .permutation .below k (omega (arith, s .permutation .len)));
+  amounts = λ k q. s .amounts .finite-amounts k (omega (arith, s .amounts .len));
+  factor = entries-finite n (r .l) np (s .lower .len) (s .lower .finite-entries);
+  order-length = omega (arith, s .permutation .len);
+  amounts-length = omega (arith, s .amounts .len);
+  factor-length = omega (arith, s .lower .len, square-small n h);
+}
+
+-- a run's outcome names at most a step
+mark-placed : (n : ℕ) (m : Mark) → n ≤ 48 → ((j : ℕ) → outcomeOf m ≡ StoredNotFinite j → j ≤ n) → PlaceFits (place (outcomeOf m))
+mark-placed n Never h s = (omega arith, omega arith)
+mark-placed n (Step j) h s = (omega (arith, s j refl), omega arith)
+
+run-placed : (method : Method) (t : Tolerances) (n : ℕ) (a : List Float) → n ≤ 48 → MarksBelow n (factor method t n a .decomposition)
+    → PlaceFits (place (factor method t n a .decomposition .outcome))
+unfolding factor mod-cholesky-gmw81 mod-cholesky-se
+run-placed gmw81 t n a h s = mark-placed n (gmw.run n a .refused) h (s .refused-below)
+run-placed (se v) t n a h s = mark-placed n (schnabel.run v t n a .refused) h (s .refused-below)
+
+refused-fits : (o : Outcome) → PlaceFits (place o) → Fits (refused o)
+refused-fits o t = record {
+  marks = (λ j e. absurd (never j e), λ j e. absurd (never j e));
+  placed = t;
+  order = λ k q. absurd (omega arith);
+  amounts = λ k q. absurd (omega arith);
+  factor = λ k q. absurd (omega arith);
+  order-length = omega arith;
+  amounts-length = omega arith;
+  factor-length = omega arith;
+}
+  where
+    never : (j : ℕ) → _≡_ {A = Mark} Never (Step j) → ⊥
+    never j e = let z : _≡_ {A = ℕ} 0 1 = cc in omega arith
+
+module _ (b : List ℕ) where
+  run-fits : complete (record-checks b) ≡ true → Fits (factor (calls.methodOf (methodOf b)) tolerances (sizeOf b) (matrixOf b))
+  run-fits c =
+      let n = sizeOf b in
+      let a = matrixOf b in
+      let method = calls.methodOf (methodOf b) in
+      let A = matrix-accepted b (record { is = c }) in
+      let small : n ≤ 48 = checks-accepted b (record { is = c }) .0 .square .small in
+      let s = results method n a (A .0) (A .1) in
+      sound-fits n (factor method tolerances n a) (A .0) small s (run-placed method tolerances n a small (s .marks))
+
+  pub result-fits : Fits (result-of b)
+  result-fits = elim (is (complete (record-checks b))) [
+    | holds c ↦ rw (answer-complete b c) (run-fits c)
+    | fails c ↦ rw (answer-refused b c) (refused-fits (record-checks b) (record-placed b))
+  ]
+
+  pub answer-length-at-most : length (answer b) ≤ 18885
+  unfolding answer
+  answer-length-at-most = answer-fits (result-of b) result-fits

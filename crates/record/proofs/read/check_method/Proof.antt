@@ -1,0 +1,16 @@
+use native.Mathlib.Omega.{arith}
+use borrow.Author.Tests.{le-leb, lt-leb}
+use Rattle.record.proofs.read.check_method.Statement.{statement}
+use Rattle.record.proofs.read.check_method.Tie as tie
+
+returns : tie.Need-returns
+returns c = rw (c .if1 .taken)
+
+returns-2 : tie.Need-returns-2
+returns-2 c = rw (le-leb 1 (c .before .before .args .number) (omega arith), lt-leb _ 3 (c .if2 .taken))
+
+returns-3 : tie.Need-returns-3
+returns-3 c = rw (le-leb 1 (c .before .before .args .number) (omega arith), le-leb _ 3 (c .if2 .left))
+
+pub check-method-spec : {M : Type 1} → statement M
+check-method-spec = tie.close (tie.spec returns returns-2 returns-3)

@@ -1,0 +1,10 @@
+use mathlib.Core.Path.{sym}
+use Rattle.record.proofs.Numbers.{bits-finite}
+use Rattle.record.proofs.read.finite_pattern.Statement.{statement}
+use Rattle.record.proofs.read.finite_pattern.Tie as tie
+
+returns : tie.Need-returns
+returns c = sym (bits-finite _)
+
+pub finite-pattern-spec : {M : Type 1} → statement M
+finite-pattern-spec = tie.close (tie.spec returns)

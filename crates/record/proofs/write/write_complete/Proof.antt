@@ -1,0 +1,26 @@
+use borrow.Author.Needs.{needs}
+use native.Mathlib.Omega.{arith}
+use Rattle.record.specs.Writing.{result}
+use Rattle.record.proofs.WriteFields.{length-factor, complete-written}
+use Rattle.record.proofs.write.write_complete.Statement.{statement}
+use Rattle.record.proofs.write.write_complete.Tie as tie
+
+write-marks-requires : tie.Need-write-marks-requires
+write-marks-requires c κs = search needs
+
+write-factor-requires : tie.Need-write-factor-requires
+write-factor-requires c κs = search needs
+
+same-length : tie.Need-same-length
+same-length c = search needs
+
+returns : tie.Need-returns
+returns c =
+    let s = c .before .before .before .before .before .before .before .before .before .before .before .before in
+    let a = s .args in
+    let r = result (a .d) (a .l .now) (a .e .now) (a .p .now) in
+    complete-written _ _ _ _ _ r (c .before .before .before .before .before .before .write-marks .ensures) (c .before .before .write-factor .ensures (a .d)) (s .pre .0 .1) (omega (arith, length-factor r))
+
+pub write-complete-spec : {M : Type 1} → statement M
+write-complete-spec =
+    tie.close (tie.spec write-marks-requires write-factor-requires same-length returns)

@@ -1,0 +1,6 @@
+pub mod Bytes
+pub mod MatrixRecord
+pub mod AnswerRecord
+pub mod Writing
+pub mod Record
+pub mod ReadBack

@@ -1,0 +1,4 @@
+// Matrix records and answer records (document 01, 'Matrix, answer and record').
+pub mod answer;
+pub mod read;
+pub mod write;

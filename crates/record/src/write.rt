@@ -1,0 +1,161 @@
+// Answer records, written into a lent buffer. Each function writes from a position on and returns the next one.
+ghost use mathlib.Core.Path.{_≡_};
+ghost use mathlib.Core.Bool.{true, false};
+ghost use mathlib.Core.List.{[], _∷_};
+ghost use Prim.Native.Nat.{_+_, _*_, _≤_, _<_};
+ghost use lib.ListN.{length};
+ghost use Rattle.arithmetic.specs.Outcome.{complete, place};
+ghost use Rattle.matrix.specs.Plain.{AllBelow};
+ghost use Rattle.methods.specs.declared.decomposition.Decomposition.{Decomposition};
+ghost use Rattle.record.specs.Bytes.{bytes, field, content-of};
+ghost use Rattle.record.specs.AnswerRecord.{step-byte, marks-fields, factor-fields, place-field, answer-record};
+ghost use Rattle.record.specs.Writing.{over, EachFinite, StepFits, MarksFit, PlaceFits, Fits, result};
+use arithmetic::outcome::Place;
+use methods::decomposition::Decomposition;
+use methods::decomposition::Mark;
+
+fn write_byte(out: &mut [u8], at: usize, v: u8) -> usize
+    requires { ⌜ at < length (now out) ⌝ }
+    ensures { λ r. ⌜ (now (out .exit) ≡ over (now (out .entry)) at (v ∷ [])) × (r ≡ at + 1) ⌝ }
+{
+    out[at] = v;
+    at + 1
+}
+
+// A field's tag and length.
+fn write_head(out: &mut [u8], at: usize, tag: u8, len: usize) -> usize
+    requires { ⌜ (at + 3 ≤ length (now out)) × (len < 65536) ⌝ }
+    ensures { λ r. ⌜ (now (out .exit) ≡ over (now (out .entry)) at (tag ∷ bytes 2 len)) × (r ≡ at + 3) ⌝ }
+{
+    let low = write_byte(out, at, tag);
+    let high = write_byte(out, low, (len % 256) as u8);
+    write_byte(out, high, (len / 256) as u8)
+}
+
+fn write_number(out: &mut [u8], at: usize, v: u64) -> usize
+    requires { ⌜ at + 8 ≤ length (now out) ⌝ }
+    ensures { λ r. ⌜ (now (out .exit) ≡ over (now (out .entry)) at (bytes 8 v)) × (r ≡ at + 8) ⌝ }
+{
+    let mut rest = v;
+    for i in 0..8usize {
+        out[at + i] = (rest % 256) as u8;
+        rest = rest / 256;
+    }
+    at + 8
+}
+
+fn write_doubles(out: &mut [u8], at: usize, x: &[f64]) -> usize
+    requires { ⌜ at + 8 * length (now x) ≤ length (now out) ⌝ }
+    requires { ⌜ EachFinite (now x) ⌝ }
+    ensures { λ r. ⌜ (now (out .exit) ≡ over (now (out .entry)) at (content-of (now (x .entry)))) × (r ≡ at + 8 * length (now (x .entry))) ⌝ }
+{
+    let n = x.len();
+    let mut next = at;
+    for k in 0..n {
+        next = write_number(out, next, f64::to_bits(x[k]));
+    }
+    next
+}
+
+fn write_order(out: &mut [u8], at: usize, p: &[usize]) -> usize
+    requires { ⌜ at + length (now p) ≤ length (now out) ⌝ }
+    requires { ⌜ AllBelow 256 (now p) ⌝ }
+    ensures { λ r. ⌜ (now (out .exit) ≡ over (now (out .entry)) at (now (p .entry))) × (r ≡ at + length (now (p .entry))) ⌝ }
+{
+    let n = p.len();
+    for k in 0..n {
+        out[at + k] = p[k] as u8;
+    }
+    at + n
+}
+
+fn step_byte(m: Mark) -> u8
+    requires { ⌜ StepFits m ⌝ }
+    ensures { λ r. ⌜ r ≡ step-byte m ⌝ }
+{
+    match m {
+        Mark::Never => 255,
+        Mark::Step(j) => j as u8,
+    }
+}
+
+// A field of one byte.
+fn write_byte_field(out: &mut [u8], at: usize, tag: u8, v: u8) -> usize
+    requires { ⌜ at + 4 ≤ length (now out) ⌝ }
+    ensures { λ r. ⌜ (now (out .exit) ≡ over (now (out .entry)) at (field tag (v ∷ []))) × (r ≡ at + 4) ⌝ }
+{
+    let next = write_head(out, at, tag, 1);
+    write_byte(out, next, v)
+}
+
+fn write_doubles_field(out: &mut [u8], at: usize, tag: u8, x: &[f64]) -> usize
+    requires { ⌜ (at + (3 + 8 * length (now x)) ≤ length (now out)) × (length (now x) ≤ 2304) ⌝ }
+    requires { ⌜ EachFinite (now x) ⌝ }
+    ensures { λ r. ⌜ (now (out .exit) ≡ over (now (out .entry)) at (field tag (content-of (now (x .entry))))) × (r ≡ at + (3 + 8 * length (now (x .entry)))) ⌝ }
+{
+    let next = write_head(out, at, tag, 8 * x.len());
+    write_doubles(out, next, x)
+}
+
+fn write_order_field(out: &mut [u8], at: usize, tag: u8, p: &[usize]) -> usize
+    requires { ⌜ (at + (3 + length (now p)) ≤ length (now out)) × (length (now p) ≤ 48) ⌝ }
+    requires { ⌜ AllBelow 256 (now p) ⌝ }
+    ensures { λ r. ⌜ (now (out .exit) ≡ over (now (out .entry)) at (field tag (now (p .entry)))) × (r ≡ at + (3 + length (now (p .entry)))) ⌝ }
+{
+    let next = write_head(out, at, tag, p.len());
+    write_order(out, next, p)
+}
+
+fn write_marks(out: &mut [u8], d: Decomposition) -> usize
+    requires { ⌜ 12 ≤ length (now out) ⌝ }
+    requires { ⌜ MarksFit d ⌝ }
+    ensures { λ r. ⌜ (now (out .exit) ≡ over (now (out .entry)) 0 (marks-fields d)) × (r ≡ 12) ⌝ }
+{
+    let outcome = d.outcome;
+    let tied = d.tied;
+    let phase2 = d.phase2;
+    let next = write_byte_field(out, 0, 0x11, outcome.number());
+    let last = write_byte_field(out, next, 0x12, step_byte(tied));
+    write_byte_field(out, last, 0x13, step_byte(phase2))
+}
+
+fn write_factor(out: &mut [u8], at: usize, p: &[usize], e: &[f64], l: &[f64]) -> usize
+    requires { ⌜ at + 18873 ≤ length (now out) ⌝ }
+    requires { ⌜ (length (now p) ≤ 48) × (length (now e) ≤ 48) × (length (now l) ≤ 2304) ⌝ }
+    requires { ⌜ AllBelow 256 (now p) × EachFinite (now e) × EachFinite (now l) ⌝ }
+    ensures { λ r. ⌜ ((d : Decomposition) → (now (out .exit) ≡ over (now (out .entry)) at (factor-fields (result d (now (l .entry)) (now (e .entry)) (now (p .entry))))) × (r ≡ at + length (factor-fields (result d (now (l .entry)) (now (e .entry)) (now (p .entry)))))) ⌝ }
+{
+    let amounts = write_order_field(out, at, 0x14, p);
+    let factor = write_doubles_field(out, amounts, 0x15, e);
+    write_doubles_field(out, factor, 0x16, l)
+}
+
+fn write_place(out: &mut [u8], at: usize, place: Place) -> usize
+    requires { ⌜ at + 5 ≤ length (now out) ⌝ }
+    requires { ⌜ PlaceFits place ⌝ }
+    ensures { λ r. ⌜ (now (out .exit) ≡ over (now (out .entry)) at (place-field place)) × (r ≡ at + 5) ⌝ }
+{
+    let row = write_head(out, at, 0x17, 2);
+    let column = write_byte(out, row, place.row as u8);
+    write_byte(out, column, place.column as u8)
+}
+
+pub fn write_complete(out: &mut [u8], d: Decomposition, l: &[f64], e: &[f64], p: &[usize]) -> usize
+    requires { ⌜ (length (now out) ≡ 18885) × (complete (d .outcome) ≡ true) ⌝ }
+    requires { ⌜ Fits (result d (now l) (now e) (now p)) ⌝ }
+    ensures { λ r. ⌜ (now (out .exit) ≡ over (now (out .entry)) 0 (answer-record (result d (now (l .entry)) (now (e .entry)) (now (p .entry))))) × (r ≡ length (answer-record (result d (now (l .entry)) (now (e .entry)) (now (p .entry))))) ⌝ }
+{
+    let next = write_marks(out, d);
+    write_factor(out, next, p, e, l)
+}
+
+// A refusal has no L, e and p.
+pub fn write_refusal(out: &mut [u8], d: Decomposition) -> usize
+    requires { ⌜ (length (now out) ≡ 18885) × (complete (d .outcome) ≡ false) ⌝ }
+    requires { ⌜ MarksFit d × PlaceFits (place (d .outcome)) ⌝ }
+    ensures { λ r. ⌜ (now (out .exit) ≡ over (now (out .entry)) 0 (answer-record (result d [] [] []))) × (r ≡ length (answer-record (result d [] [] []))) ⌝ }
+{
+    let next = write_marks(out, d);
+    let outcome = d.outcome;
+    write_place(out, next, outcome.place())
+}
