@@ -193,11 +193,3 @@ pub fn checked_sqrt(x: f64) -> SqrtAnswer
         value: sqrt(x),
     }
 }
-
-// The root for C and Rust.
-#[no_mangle]
-pub extern "C" fn millracer_sqrt(x: f64) -> f64
-    ensures { λ r. ⌜ r ≡ sqrt x ⌝ }
-{
-    sqrt(x)
-}

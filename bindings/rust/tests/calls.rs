@@ -1,0 +1,195 @@
+//! Each call on operands that it accepts and that it refuses.
+
+use millracer::*;
+
+const INFINITY: f64 = f64::INFINITY;
+
+#[test]
+fn root() {
+    assert_eq!(sqrt(2.0).to_bits(), 2f64.sqrt().to_bits());
+    assert_eq!(sqrt(-0.0).to_bits(), (-0.0f64).to_bits());
+    assert!(sqrt(-1.0).is_nan());
+    assert_eq!(checked_sqrt(f64::from_bits(1)), Ok(2f64.powi(-537)));
+    assert_eq!(
+        checked_sqrt(INFINITY),
+        Err(Refusal::NotFinite { row: 0, column: 0 })
+    );
+    assert_eq!(
+        checked_sqrt(-1.0),
+        Err(Refusal::StoredNotFinite { step: 0 })
+    );
+}
+
+#[test]
+fn eigenvalues() {
+    assert_eq!(
+        eigenvalues_2x2([[2.0, 1.0], [1.0, 2.0]]),
+        Ok(Eigen { hi: 3.0, lo: 1.0 })
+    );
+    assert_eq!(
+        eigenvalues_2x2([[2.0, INFINITY], [1.0, 2.0]]),
+        Err(Refusal::NotFinite { row: 0, column: 1 })
+    );
+    assert_eq!(
+        eigenvalues_2x2([[f64::MAX, 0.0], [0.0, f64::MAX]]),
+        Err(Refusal::StoredNotFinite { step: 0 })
+    );
+}
+
+#[test]
+fn searches() {
+    let c = [3.0, -5.0, 3.0];
+    assert_eq!(index_of_largest(&c), Ok(0));
+    assert_eq!(index_of_largest_abs(&c), Ok(1));
+    assert_eq!(index_of_largest(&[]), Err(Refusal::SizeOutOfRange));
+    assert_eq!(
+        index_of_largest_abs(&[1.0, 2.0, f64::NAN]),
+        Err(Refusal::NotFinite { row: 2, column: 0 })
+    );
+    let mut long = vec![0.0; 100];
+    long[77] = 1.0;
+    assert_eq!(index_of_largest(&long), Ok(77));
+}
+
+#[test]
+fn swaps() {
+    let mut mat = [1.0, 2.0, 3.0, 4.0];
+    assert_eq!(swap_rows(&mut mat, 2, 0, 1), Ok(()));
+    assert_eq!(mat, [3.0, 4.0, 1.0, 2.0]);
+    assert_eq!(swap_columns(&mut mat, 2, 0, 1), Ok(()));
+    assert_eq!(mat, [4.0, 3.0, 2.0, 1.0]);
+    assert_eq!(
+        swap_rows(&mut mat, 2, 2, 0),
+        Err(Refusal::IndexOutOfRange { position: 0 })
+    );
+    assert_eq!(
+        swap_columns(&mut mat, 2, 0, 9),
+        Err(Refusal::IndexOutOfRange { position: 1 })
+    );
+    assert_eq!(swap_rows(&mut mat, 3, 0, 1), Err(Refusal::MatrixLength));
+    assert_eq!(mat, [4.0, 3.0, 2.0, 1.0]);
+}
+
+#[test]
+fn plain_matrices() {
+    assert_eq!(
+        index_to_permutation_mat(&[1, 0]),
+        Ok(vec![0.0, 1.0, 1.0, 0.0])
+    );
+    assert_eq!(
+        index_to_permutation_mat(&[1, 2]),
+        Err(Refusal::IndexOutOfRange { position: 1 })
+    );
+    assert_eq!(
+        index_to_permutation_mat(&[0; 49]),
+        Err(Refusal::SizeOutOfRange)
+    );
+    assert_eq!(diag_mat_from_arr(&[5.0, 6.0]), Ok(vec![5.0, 0.0, 0.0, 6.0]));
+    assert_eq!(
+        diag_mat_from_arr(&[5.0, INFINITY]),
+        Err(Refusal::NotFinite { row: 1, column: 0 })
+    );
+}
+
+#[test]
+fn circles() {
+    assert_eq!(
+        gershgorin_circles(&[1.0, -2.0, 3.0, 4.0], 2),
+        Ok(vec![(1.0, 2.0), (4.0, 2.0)])
+    );
+    let mut mat = [0.0; 9];
+    mat[5] = f64::MAX;
+    mat[3] = f64::MAX;
+    assert_eq!(
+        gershgorin_circles(&mat, 3),
+        Err(Refusal::StoredNotFinite { step: 1 })
+    );
+    assert_eq!(
+        gershgorin_circles(&mat, usize::MAX),
+        Err(Refusal::SizeOutOfRange)
+    );
+}
+
+#[test]
+fn decompositions() {
+    let d = mod_cholesky_gmw81(&[2.0, 2.0, 2.0, 4.0], 2).unwrap();
+    assert_eq!(d.l, [2.0, 0.0, 1.0, 1.0]);
+    assert_eq!((d.e, d.p), (vec![0.0, 0.0], vec![1, 0]));
+    assert_eq!((d.n, d.tied, d.phase2), (2, None, None));
+    let identity = mod_cholesky_gmw81(&[1.0, 0.0, 0.0, 1.0], 2).unwrap();
+    assert_eq!(identity.tied, Some(0));
+    let d = mod_cholesky_se90(&[4.0, 2.0, 2.0, 2.0], 2).unwrap();
+    assert_eq!((d.l, d.phase2), (vec![2.0, 0.0, 1.0, 1.0], None));
+    let d = mod_cholesky_se99(&[-4.0], 1).unwrap();
+    assert_eq!(d.phase2, Some(0));
+    assert!(d.e[0] > 4.0);
+}
+
+#[test]
+fn refused_matrices() {
+    let all = [mod_cholesky_gmw81, mod_cholesky_se90, mod_cholesky_se99];
+    for call in all {
+        assert!(call(&diag_mat_from_arr(&[2.0; 48]).unwrap(), 48).is_ok());
+        for n in [0, 49, usize::MAX] {
+            assert_eq!(call(&[1.0], n), Err(Refusal::SizeOutOfRange));
+        }
+        assert_eq!(call(&[1.0], 2), Err(Refusal::MatrixLength));
+        assert_eq!(
+            call(&[1.0, 0.0, f64::NAN, 1.0], 2),
+            Err(Refusal::NotFinite { row: 1, column: 0 })
+        );
+        assert_eq!(
+            call(&[1.0, 0.0, -0.0, 1.0], 2),
+            Err(Refusal::Unsymmetric { row: 0, column: 1 })
+        );
+    }
+    assert_eq!(
+        mod_cholesky_gmw81(&[f64::MAX; 4], 2),
+        Err(Refusal::StoredNotFinite { step: 0 })
+    );
+}
+
+#[test]
+fn lent_buffers() {
+    let (mut l, mut work) = ([7.0; 4], [7.0; 4]);
+    let (mut e, mut p) = ([7.0; 2], [7; 2]);
+    let a = [0.0; 4];
+    let ended = factor(Method::Se90, &a, 2, &mut l, &mut work, &mut e[..1], &mut p);
+    assert_eq!(ended.outcome, Err(Refusal::BufferLength));
+    assert_eq!((ended.tied, ended.phase2), (None, None));
+    assert_eq!((l, work, e, p), ([7.0; 4], [7.0; 4], [7.0; 2], [7; 2]));
+    let ended = factor(Method::Se90, &a, 2, &mut l, &mut work, &mut e, &mut p);
+    assert_eq!(ended.outcome, Err(Refusal::StoredNotFinite { step: 0 }));
+    assert_eq!(ended.tied, Some(0));
+    assert_eq!((l, work, e, p), ([0.0; 4], [0.0; 4], [0.0; 2], [0, 1]));
+}
+
+#[test]
+fn refusals_in_words() {
+    let refusal = mod_cholesky_se99(&[1.0, 2.0, 3.0, 1.0], 2).unwrap_err();
+    assert_eq!((refusal.number(), refusal.place()), (8, (0, 1)));
+    assert_eq!(
+        refusal.to_string(),
+        "refusal 8: the matrix is unsymmetric at row 0, column 1"
+    );
+}
+
+#[test]
+fn records() {
+    let matrix = [
+        1, 1, 0, 1, 2, 1, 0, 1, 3, 8, 0, 0, 0, 0, 0, 0, 0, 0x10, 0x40,
+    ];
+    let marks = [0x11, 1, 0, 0, 0x12, 1, 0, 0xff, 0x13, 1, 0, 0xff];
+    let order = [0x14, 1, 0, 0];
+    let amounts = [0x15, 8, 0, 0, 0, 0, 0, 0, 0, 0, 0];
+    let factor = [0x16, 8, 0, 0, 0, 0, 0, 0, 0, 0, 0x40];
+    assert_eq!(
+        record(&matrix),
+        [&marks[..], &order, &amounts, &factor].concat()
+    );
+    let malformed = [
+        0x11, 1, 0, 1, 0x12, 1, 0, 0xff, 0x13, 1, 0, 0xff, 0x17, 2, 0, 0, 0,
+    ];
+    assert_eq!(record(&[]), malformed);
+    assert_eq!(record(&[0; 20000]), malformed);
+}

@@ -1,0 +1,55 @@
+// The factorizations, by document 01's number of the method.
+ghost use mathlib.Core.Path.{_≡_};
+ghost use Rattle.methods.specs.Calls.{numbered-call};
+ghost use Rattle.exports.specs.Exports.{stepNumber, factorization, factorExport};
+use crate::refusal::Refusal;
+use methods::decomposition::Decomposition;
+use methods::decomposition::Mark;
+use modcholesky::calls::factor;
+
+// The tied step and the phase-two step, 255 for none.
+#[repr(C)]
+pub struct Factorization {
+    pub refusal: Refusal,
+    pub tied: usize,
+    pub phase2: usize,
+}
+
+impl Factorization {
+    fn of(answer: Decomposition) -> Factorization
+        ensures { λ r. ⌜ r ≡ factorization answer ⌝ }
+    {
+        let outcome = answer.outcome;
+        let tied = answer.tied;
+        let phase2 = answer.phase2;
+        Factorization {
+            refusal: Refusal::of(outcome),
+            tied: step_number(tied),
+            phase2: step_number(phase2),
+        }
+    }
+}
+
+fn step_number(mark: Mark) -> usize
+    ensures { λ r. ⌜ r ≡ stepNumber mark ⌝ }
+{
+    match mark {
+        Mark::Never => 255,
+        Mark::Step(j) => j,
+    }
+}
+
+#[no_mangle]
+pub extern "C" fn millracer_factor(
+    method: usize,
+    a: &[f64],
+    n: usize,
+    l: &mut [f64],
+    work: &mut [f64],
+    e: &mut [f64],
+    p: &mut [usize],
+) -> Factorization
+    ensures { λ r. ⌜ record { factorization = r; l = now (l .exit); work = now (work .exit); e = now (e .exit); p = now (p .exit) } ≡ factorExport (numbered-call method n (now (a .entry)) (now (l .entry)) (now (work .entry)) (now (e .entry)) (now (p .entry))) ⌝ }
+{
+    Factorization::of(factor(method, a, n, l, work, e, p))
+}

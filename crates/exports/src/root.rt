@@ -1,0 +1,40 @@
+// The square root.
+ghost use mathlib.Core.Path.{_≡_};
+ghost use Rattle.arithmetic.specs.Sqrt.{sqrt, checked-sqrt};
+ghost use Rattle.exports.specs.Exports.{root};
+use crate::refusal::Refusal;
+use arithmetic::sqrt::SqrtAnswer;
+use arithmetic::sqrt::checked_sqrt;
+use arithmetic::sqrt::sqrt;
+
+#[repr(C)]
+pub struct Root {
+    pub refusal: Refusal,
+    pub value: f64,
+}
+
+impl Root {
+    fn of(answer: SqrtAnswer) -> Root
+        ensures { λ r. ⌜ r ≡ root answer ⌝ }
+    {
+        let outcome = answer.outcome;
+        Root {
+            refusal: Refusal::of(outcome),
+            value: answer.value,
+        }
+    }
+}
+
+#[no_mangle]
+pub extern "C" fn millracer_sqrt(x: f64) -> f64
+    ensures { λ r. ⌜ r ≡ sqrt x ⌝ }
+{
+    sqrt(x)
+}
+
+#[no_mangle]
+pub extern "C" fn millracer_checked_sqrt(x: f64) -> Root
+    ensures { λ r. ⌜ r ≡ root (checked-sqrt x) ⌝ }
+{
+    Root::of(checked_sqrt(x))
+}
