@@ -1,0 +1,13 @@
+// Reads one matrix record from standard input and writes its answer record to standard output.
+use libc::STDIN_FILENO;
+use libc::STDOUT_FILENO;
+use record::answer::answer;
+
+fn main() {
+    // One byte more than the longest record, so that a longer input is noticed.
+    let mut input = [0; 18444];
+    let mut out = [0; 18885];
+    let len = io::read_full(STDIN_FILENO, &mut input);
+    let n = answer(&input[..len], &mut out);
+    io::write_all(STDOUT_FILENO, &out[..n]);
+}
