@@ -1,30 +1,13 @@
 //! Microseconds a factorization of the proved code, of the Rust and of plain C on the same matrices,
 //! and the ratios, for each method at n = 8, 24 and 48.
 
+use millracer::{factor, Method};
 use modcholesky::{ModCholeskyGMW81, ModCholeskySE90, ModCholeskySE99};
 use ndarray::Array2;
 use std::hint::black_box;
 use std::time::Instant;
 
-/// Refusal number, row and column, tied and phase-two step.
-#[repr(C)]
-struct Factorization([usize; 5]);
-
 extern "C" {
-    fn millracer_factor(
-        number: usize,
-        a: *const f64,
-        a_len: usize,
-        n: usize,
-        l: *mut f64,
-        l_len: usize,
-        work: *mut f64,
-        work_len: usize,
-        e: *mut f64,
-        e_len: usize,
-        p: *mut usize,
-        p_len: usize,
-    ) -> Factorization;
     fn c_gmw81(a: *const f64, n: usize, l: *mut f64, c: *mut f64, e: *mut f64, p: *mut usize);
     fn c_se(se99: i32, a: *const f64, n: usize, l: *mut f64, e: *mut f64, p: *mut usize);
 }
@@ -47,27 +30,12 @@ impl Buffers {
     }
 }
 
-fn proved(method: usize, n: usize, a: &[f64], b: &mut Buffers) -> usize {
-    let answer = unsafe {
-        millracer_factor(
-            method,
-            a.as_ptr(),
-            a.len(),
-            n,
-            b.l.as_mut_ptr(),
-            b.l.len(),
-            b.work.as_mut_ptr(),
-            b.work.len(),
-            b.e.as_mut_ptr(),
-            b.e.len(),
-            b.p.as_mut_ptr(),
-            b.p.len(),
-        )
-    };
-    answer.0[0]
+fn proved(method: Method, n: usize, a: &[f64], b: &mut Buffers) -> bool {
+    let ended = factor(method, a, n, &mut b.l, &mut b.work, &mut b.e, &mut b.p);
+    ended.outcome.is_ok()
 }
 
-fn plain_c(method: usize, n: usize, a: &[f64], b: &mut Buffers) {
+fn plain_c(method: Method, n: usize, a: &[f64], b: &mut Buffers) {
     let (l, work, e, p) = (
         b.l.as_mut_ptr(),
         b.work.as_mut_ptr(),
@@ -76,17 +44,18 @@ fn plain_c(method: usize, n: usize, a: &[f64], b: &mut Buffers) {
     );
     unsafe {
         match method {
-            1 => c_gmw81(a.as_ptr(), n, l, work, e, p),
-            _ => c_se((method == 3) as i32, a.as_ptr(), n, l, e, p),
+            Method::Gmw81 => c_gmw81(a.as_ptr(), n, l, work, e, p),
+            Method::Se90 => c_se(0, a.as_ptr(), n, l, e, p),
+            Method::Se99 => c_se(1, a.as_ptr(), n, l, e, p),
         }
     }
 }
 
-fn rust(method: usize, a: &Array2<f64>) -> (Vec<f64>, Vec<f64>, Vec<usize>) {
+fn rust(method: Method, a: &Array2<f64>) -> (Vec<f64>, Vec<f64>, Vec<usize>) {
     let r = match method {
-        1 => a.mod_cholesky_gmw81(),
-        2 => a.mod_cholesky_se90(),
-        _ => a.mod_cholesky_se99(),
+        Method::Gmw81 => a.mod_cholesky_gmw81(),
+        Method::Se90 => a.mod_cholesky_se90(),
+        Method::Se99 => a.mod_cholesky_se99(),
     };
     (r.l.into_raw_vec(), r.e.into_raw_vec(), r.p.into_raw_vec())
 }
@@ -143,9 +112,9 @@ fn same_bits(x: &[f64], y: &[f64]) -> bool {
 }
 
 /// The three must agree bit for bit before they are timed.
-fn compare(method: usize, n: usize, a: &[f64]) {
+fn compare(method: Method, n: usize, a: &[f64]) {
     let (mut b, mut c) = (Buffers::new(n), Buffers::new(n));
-    assert_eq!(proved(method, n, a, &mut b), 0);
+    assert!(proved(method, n, a, &mut b), "refused");
     plain_c(method, n, a, &mut c);
     let (l, e, p) = rust(method, &Array2::from_shape_vec((n, n), a.to_vec()).unwrap());
     assert!(
@@ -159,7 +128,7 @@ fn compare(method: usize, n: usize, a: &[f64]) {
 }
 
 /// The three take turns, and the least time of each counts.
-fn least(method: usize, n: usize, list: &[Vec<f64>]) -> [f64; 3] {
+fn least(method: Method, n: usize, list: &[Vec<f64>]) -> [f64; 3] {
     let arrays: Vec<Array2<f64>> = list
         .iter()
         .map(|a| Array2::from_shape_vec((n, n), a.clone()).unwrap())
@@ -185,11 +154,12 @@ fn least(method: usize, n: usize, list: &[Vec<f64>]) -> [f64; 3] {
     best
 }
 
-fn report(method: usize, name: &str, n: usize, kind: &str, list: &[Vec<f64>]) {
+fn report(method: Method, n: usize, kind: &str, list: &[Vec<f64>]) {
     list.iter().for_each(|a| compare(method, n, a));
     let [ours, theirs, c] = least(method, n, list);
     println!(
-        "{name:5} n {n:2} {kind:17} proved {ours:7.2} us, Rust {theirs:7.2} us, C {c:7.2} us; of the Rust {:4.2}, of the C {:4.2}",
+        "{:5} n {n:2} {kind:17} proved {ours:7.2} us, Rust {theirs:7.2} us, C {c:7.2} us; of the Rust {:4.2}, of the C {:4.2}",
+        format!("{method:?}"),
         ours / theirs,
         ours / c
     );
@@ -197,14 +167,14 @@ fn report(method: usize, name: &str, n: usize, kind: &str, list: &[Vec<f64>]) {
 
 fn main() {
     let mut random = Random(1);
-    for (method, name) in [(1, "GMW81"), (2, "SE90"), (3, "SE99")] {
+    for method in [Method::Gmw81, Method::Se90, Method::Se99] {
         for n in [8, 24, 48] {
             let list: Vec<_> = (0..MATRICES)
                 .map(|_| positive_definite(n, &mut random))
                 .collect();
-            report(method, name, n, "positive definite", &list);
+            report(method, n, "positive definite", &list);
             let list: Vec<_> = (0..MATRICES).map(|_| indefinite(n, &mut random)).collect();
-            report(method, name, n, "indefinite", &list);
+            report(method, n, "indefinite", &list);
         }
     }
 }

@@ -10,7 +10,6 @@ use crate::calls;
 use methods::decomposition::Decomposition;
 use methods::schnabel_eskow::Tolerances;
 use methods::schnabel_eskow::Variant;
-use schnabel_eskow::phase_two;
 
 // A whole run, with its fillings where it is refused.
 pub fn mod_cholesky_se(

@@ -1,0 +1,31 @@
+use borrow.Author.Needs.{needs}
+use borrow.Author.Tests.{eq-eqb, ne-eqb}
+use Rattle.matrix.specs.Circles.{addMagnitudes}
+use Rattle.circles.proofs.add_magnitudes.Statement.{statement}
+use Rattle.circles.proofs.add_magnitudes.Tie as tie
+
+returns : tie.Need-returns
+unfolding addMagnitudes
+returns c = rw (eq-eqb _ _ (c .if1 .taken))
+
+get-requires : tie.Need-get-requires
+get-requires c κs = search needs
+
+abs-requires : tie.Need-abs-requires
+abs-requires c κs = search needs
+
+get-requires-2 : tie.Need-get-requires-2
+get-requires-2 c κs = search needs
+
+abs-requires-2 : tie.Need-abs-requires-2
+abs-requires-2 c κs = search needs
+
+returns-2 : tie.Need-returns-2
+unfolding addMagnitudes
+returns-2 c =
+    let b = c .before .before .before .before in
+    rw (ne-eqb _ _ (b .before .before .if1 .left), b .abs .ensures, b .before .get .ensures, c .before .abs2 .ensures, c .before .before .get2 .ensures)
+
+pub add-magnitudes-spec : {M : Type 1} → statement M
+add-magnitudes-spec =
+    tie.close (tie.spec returns get-requires abs-requires get-requires-2 abs-requires-2 returns-2)
