@@ -3,7 +3,7 @@
 mod aimed;
 pub(crate) mod edge;
 mod plain;
-pub(crate) mod rng;
+pub mod rng;
 pub(crate) mod symmetric;
 
 use crate::{GMW81, SE99};
@@ -142,7 +142,7 @@ fn gcd(a: usize, b: usize) -> usize {
 
 /// A matrix for `method` with n rows, loaded in a random order. The kinds that aim at a step aim at
 /// `step`, where the method can get there.
-pub(crate) fn matrix(kind: Kind, method: u8, n: usize, step: usize, rng: &mut Rng) -> Vec<f64> {
+pub fn matrix(kind: Kind, method: u8, n: usize, step: usize, rng: &mut Rng) -> Vec<f64> {
     let made: Symmetric = match kind {
         PositiveDefinite => plain::positive_definite(n, rng),
         Indefinite => plain::indefinite(n, rng),

@@ -94,7 +94,7 @@ pub fn subnormal(n: usize, rng: &mut Rng) -> Symmetric {
     let wide = 1u64 << rng.pick(&[2, 4, 20, 51]);
     let positive = rng.coin();
     Symmetric::new(n, |i, j| {
-        let size = f64::from_bits(rng.next() % wide + if i == j { wide } else { 0 });
+        let size = f64::from_bits(rng.bits() % wide + if i == j { wide } else { 0 });
         if (positive && i == j) || rng.coin() {
             size
         } else {

@@ -4,10 +4,10 @@ pub struct Rng(u64);
 impl Rng {
     pub fn new(seed: u64, index: u64) -> Self {
         let mut rng = Rng(seed);
-        Rng(rng.next() ^ index.wrapping_mul(0xd134_2543_de82_ef95))
+        Rng(rng.bits() ^ index.wrapping_mul(0xd134_2543_de82_ef95))
     }
 
-    pub fn next(&mut self) -> u64 {
+    pub fn bits(&mut self) -> u64 {
         self.0 = self.0.wrapping_add(0x9e37_79b9_7f4a_7c15);
         let mut z = self.0;
         z = (z ^ (z >> 30)).wrapping_mul(0xbf58_476d_1ce4_e5b9);
@@ -16,7 +16,7 @@ impl Rng {
     }
 
     pub fn below(&mut self, n: usize) -> usize {
-        (self.next() % n as u64) as usize
+        (self.bits() % n as u64) as usize
     }
 
     /// A whole number, both ends included.
@@ -34,7 +34,7 @@ impl Rng {
 
     /// From 0 to 1, with 53 random bits.
     pub fn unit(&mut self) -> f64 {
-        (self.next() >> 11) as f64 * 2f64.powi(-53)
+        (self.bits() >> 11) as f64 * 2f64.powi(-53)
     }
 
     pub fn within(&mut self, from: f64, to: f64) -> f64 {

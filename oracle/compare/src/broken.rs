@@ -1,0 +1,144 @@
+//! Records that are broken once or twice; some are sound all the same.
+
+use crate::operands::not_finite;
+use oracle::generate::rng::Rng;
+use oracle::generate::{matrix, KINDS};
+use oracle::record::{matrix_record, LONGEST};
+
+/// Where field 03 has its content, in a record whose first two fields are sound.
+const ENTRIES: usize = 11;
+
+pub fn record(rng: &mut Rng) -> Vec<u8> {
+    let mut bytes = sound(rng);
+    for _ in 0..1 + rng.below(2) {
+        break_once(&mut bytes, rng);
+    }
+    bytes
+}
+
+fn sound(rng: &mut Rng) -> Vec<u8> {
+    let n = match rng.below(64) {
+        0 => 48,
+        _ => 1 + rng.below(6),
+    };
+    let method = 1 + rng.below(3) as u8;
+    // The last kinds aim at a step, which a broken record has no use for.
+    let kind = rng.pick(&KINDS[..12]);
+    matrix_record(method, n as u8, &matrix(kind, method, n, 0, rng))
+}
+
+fn break_once(bytes: &mut Vec<u8>, rng: &mut Rng) {
+    match rng.below(16) {
+        0 => bytes.truncate(rng.below(bytes.len() + 1)),
+        1 => bytes.extend((0..1 + rng.below(9)).map(|_| rng.bits() as u8)),
+        2 => bytes.resize(LONGEST - 2 + rng.below(5), 0),
+        3 => flip(bytes, rng),
+        4 => put(bytes, rng.pick(&[0, 4, 8]), rng.below(5) as u8),
+        5 => put(bytes, rng.pick(&[0, 4, 8]), rng.bits() as u8),
+        6 => put(bytes, rng.pick(&[1, 2, 5, 6, 9, 10]), rng.bits() as u8),
+        7 => put(bytes, rng.pick(&[1, 2, 5, 6, 9, 10]), rng.below(3) as u8),
+        8 => put(bytes, 3, rng.pick(&[0, 1, 2, 48, 49, 255])),
+        9 => {
+            put(bytes, 7, rng.pick(&[0, 1, 2, 3, 4, 255]));
+            put(bytes, 3, rng.pick(&[0, 1, 2, 49]));
+        }
+        10 | 11 => spoil(bytes, not_finite(rng), rng),
+        12 | 13 => turn_bit(bytes, rng),
+        14 => exchange_fields(bytes, rng),
+        _ => other_length(bytes, rng),
+    }
+}
+
+fn put(bytes: &mut [u8], at: usize, value: u8) {
+    if let Some(byte) = bytes.get_mut(at) {
+        *byte = value;
+    }
+}
+
+fn flip(bytes: &mut [u8], rng: &mut Rng) {
+    for _ in 0..1 + rng.below(4) {
+        let at = rng.below(bytes.len().max(1));
+        let old = bytes.get(at).copied().unwrap_or(0);
+        put(bytes, at, old ^ 1 << rng.below(8));
+    }
+}
+
+/// How many whole entries there are.
+fn entries(bytes: &[u8]) -> usize {
+    bytes.len().saturating_sub(ENTRIES) / 8
+}
+
+/// One entry, or one and its mirror, becomes `value`.
+fn spoil(bytes: &mut [u8], value: f64, rng: &mut Rng) {
+    let count = entries(bytes);
+    if count == 0 {
+        return;
+    }
+    let (n, at) = (count.isqrt(), rng.below(count));
+    let mirror = at % n * n + at / n;
+    for place in [at, if rng.coin() { mirror } else { at }] {
+        let start = ENTRIES + 8 * place.min(count - 1);
+        bytes[start..start + 8].copy_from_slice(&value.to_le_bytes());
+    }
+}
+
+/// One bit of one entry: its sign, its last or any.
+fn turn_bit(bytes: &mut [u8], rng: &mut Rng) {
+    let count = entries(bytes);
+    if count == 0 {
+        return;
+    }
+    let any = rng.below(64);
+    let bit = rng.pick(&[0, 63, any]);
+    let at = ENTRIES + 8 * rng.below(count) + bit / 8;
+    put(bytes, at, bytes[at] ^ 1 << (bit % 8));
+}
+
+/// The first two fields in the other order, or one of them twice.
+fn exchange_fields(bytes: &mut Vec<u8>, rng: &mut Rng) {
+    if bytes.len() < 8 {
+        return;
+    }
+    match rng.below(3) {
+        0 => bytes[..8].rotate_left(4),
+        1 => bytes.copy_within(..4, 4),
+        _ => {
+            let first = bytes[..4].to_vec();
+            bytes.splice(4..4, first);
+        }
+    }
+}
+
+/// Field 03 says truly that it is longer or shorter.
+fn other_length(bytes: &mut Vec<u8>, rng: &mut Rng) {
+    let content = bytes.len().saturating_sub(ENTRIES);
+    let length = match rng.below(4) {
+        0 => content + 8,
+        1 => content.saturating_sub(8),
+        2 => content + 1 + rng.below(7),
+        _ => 0,
+    };
+    bytes.resize(ENTRIES + length, 0);
+    let [low, high] = (length as u16).to_le_bytes();
+    put(bytes, 9, low);
+    put(bytes, 10, high);
+}
+
+#[cfg(test)]
+mod tests {
+    use super::*;
+    use oracle::record::checked;
+    use std::collections::BTreeMap;
+
+    #[test]
+    fn every_check_of_a_record_fails_often() {
+        let mut rng = Rng::new(1, 0);
+        let mut seen: BTreeMap<u8, usize> = BTreeMap::new();
+        for _ in 0..4000 {
+            let refusal = checked(&record(&mut rng)).err();
+            *seen.entry(refusal.map_or(0, |r| r.number)).or_default() += 1;
+        }
+        let often = |refusal: &u8| seen.get(refusal) > Some(&40);
+        assert!([0, 1, 2, 3, 4, 7, 8].iter().all(often), "{seen:?}");
+    }
+}

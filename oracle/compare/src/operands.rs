@@ -1,0 +1,92 @@
+//! Operands of the exported calls: mostly accepted, now and then refused.
+
+use oracle::generate::rng::Rng;
+
+pub fn size(rng: &mut Rng) -> usize {
+    match rng.below(32) {
+        0 => 0,
+        1 => 49,
+        2 => usize::MAX,
+        3 => 48,
+        4..=6 => 9 + rng.below(40),
+        _ => 1 + rng.below(8),
+    }
+}
+
+/// n * n, or some number where n is refused.
+pub fn area(n: usize) -> usize {
+    if n <= 49 {
+        n * n
+    } else {
+        4
+    }
+}
+
+pub fn length(wanted: usize, rng: &mut Rng) -> usize {
+    match rng.below(32) {
+        0 => wanted + 1,
+        1 => wanted.saturating_sub(1),
+        2 => 0,
+        _ => wanted,
+    }
+}
+
+pub fn index(n: usize, rng: &mut Rng) -> usize {
+    match rng.below(16) {
+        0 => n,
+        1 => usize::MAX,
+        _ => rng.below(n.clamp(1, 48)),
+    }
+}
+
+/// Of one sort or of all, and now and then with an infinity or NaN.
+pub fn list(len: usize, rng: &mut Rng) -> Vec<f64> {
+    let sort = rng.below(SORTS + 2);
+    let mut list: Vec<f64> = (0..len).map(|_| finite(sort, rng)).collect();
+    if rng.below(4) == 0 && len > 0 {
+        for _ in 0..1 + rng.below(2) {
+            list[rng.below(len)] = not_finite(rng);
+        }
+    }
+    list
+}
+
+/// Of any bits, also those of signalling NaNs.
+pub fn any_bits(len: usize, rng: &mut Rng) -> Vec<f64> {
+    let special = rng.coin();
+    let mut entry = || match special && rng.coin() {
+        true => not_finite(rng),
+        false => f64::from_bits(rng.bits()),
+    };
+    (0..len).map(|_| entry()).collect()
+}
+
+/// What a buffer has before a call.
+pub fn filling(len: usize) -> Vec<f64> {
+    (0..len)
+        .map(|i| f64::from_bits(0x7ff4 << 48 | i as u64))
+        .collect()
+}
+
+const SORTS: usize = 7;
+
+/// A number that isn't a sort stands for all of them.
+fn finite(sort: usize, rng: &mut Rng) -> f64 {
+    let sign = rng.pick(&[1.0, -1.0]);
+    match sort {
+        0 => rng.zero(),
+        1 => f64::from(rng.whole(-4, 4)),
+        2 => rng.signed(1.0),
+        3 => rng.either(1.0, 2.0) * 2f64.powi(rng.whole(-1022, 1023)),
+        4 => sign * f64::from_bits(rng.bits() >> (12 + rng.below(52))),
+        5 => rng.either(0.01, 1.0) * f64::MAX,
+        6 => sign * (1.0 + f64::from(rng.whole(0, 3)) * f64::EPSILON),
+        _ => finite(rng.below(SORTS), rng),
+    }
+}
+
+/// Infinities and NaNs, of either sign and any payload.
+pub fn not_finite(rng: &mut Rng) -> f64 {
+    let (sign, any) = (rng.bits() & 1 << 63, rng.bits() >> 12);
+    f64::from_bits(sign | 0x7ff << 52 | rng.pick(&[0, 0, 1, 1 << 51, any]))
+}

@@ -1,0 +1,178 @@
+//! What a comparison met, and how often it differed.
+
+use crate::calls::Called;
+use crate::load_order::Alike;
+use oracle::generate::Case;
+use oracle::record::Reply;
+use oracle::table::NAMES;
+use std::collections::BTreeMap;
+use std::fmt;
+use std::time::Instant;
+
+/// After so many differences the comparison stops.
+const ENOUGH: usize = 20;
+
+/// The last n of each range of the table.
+const RANGES: [usize; 5] = [4, 8, 16, 32, 48];
+
+#[derive(Clone, Copy, Default)]
+struct Row {
+    runs: u64,
+    complete: u64,
+    refused: u64,
+    tied: u64,
+    phase_two: u64,
+}
+
+pub struct Report {
+    began: Instant,
+    runs: [[Row; RANGES.len()]; NAMES.len()],
+    sizes: [u64; 49],
+    last_blocks: u64,
+    broken: BTreeMap<usize, u64>,
+    calls: BTreeMap<&'static str, BTreeMap<usize, u64>>,
+    pairs: BTreeMap<Alike, u64>,
+    /// Index of the first, and how many.
+    differences: Option<(u64, usize)>,
+}
+
+impl Report {
+    pub fn new() -> Self {
+        Report {
+            began: Instant::now(),
+            runs: Default::default(),
+            sizes: [0; 49],
+            last_blocks: 0,
+            broken: BTreeMap::new(),
+            calls: BTreeMap::new(),
+            pairs: BTreeMap::new(),
+            differences: None,
+        }
+    }
+
+    pub fn run(&mut self, case: &Case, reply: &Reply) {
+        let range = RANGES.iter().position(|&last| case.n <= last);
+        let row = &mut self.runs[usize::from(case.method) - 1][range.expect("n is at most 48")];
+        row.runs += 1;
+        row.complete += u64::from(reply.outcome.is_ok());
+        row.refused += u64::from(reply.outcome.is_err());
+        row.tied += u64::from(reply.tied.is_some());
+        row.phase_two += u64::from(reply.phase_two.is_some());
+        self.sizes[case.n] += 1;
+    }
+
+    pub fn last_block(&mut self) {
+        self.last_blocks += 1;
+    }
+
+    pub fn broken(&mut self, refusal: u8) {
+        *self.broken.entry(refusal.into()).or_default() += 1;
+    }
+
+    pub fn call(&mut self, called: &Called) {
+        let refusals = self.calls.entry(called.call).or_default();
+        *refusals.entry(called.refusal).or_default() += 1;
+    }
+
+    pub fn pair(&mut self, alike: Alike) {
+        *self.pairs.entry(alike).or_default() += 1;
+    }
+
+    pub fn difference(&mut self, index: u64) {
+        let (first, count) = self.differences.unwrap_or((index, 0));
+        self.differences = Some((first, count + 1));
+    }
+
+    pub fn differs(&self) -> bool {
+        self.differences.is_some()
+    }
+
+    pub fn has_enough(&self) -> bool {
+        self.count() >= ENOUGH
+    }
+
+    fn count(&self) -> usize {
+        self.differences.map_or(0, |(_, count)| count)
+    }
+
+    fn total(&self) -> u64 {
+        self.sizes.iter().sum()
+    }
+
+    fn runs(&self, f: &mut fmt::Formatter) -> fmt::Result {
+        writeln!(
+            f,
+            "method n        runs  complete refused 9    tied  phase two"
+        )?;
+        for (name, rows) in NAMES.iter().zip(&self.runs) {
+            let mut first = 1;
+            for (row, last) in rows.iter().zip(RANGES) {
+                line(f, name, &format!("{first}-{last}"), row)?;
+                first = last + 1;
+            }
+            let all = rows.iter().fold(Row::default(), sum);
+            line(f, name, "all", &all)?;
+        }
+        let unmet: Vec<usize> = (1..=48).filter(|&n| self.sizes[n] == 0).collect();
+        writeln!(f, "n from 1 to 48 that didn't occur: {unmet:?}")
+    }
+
+    fn pairs(&self, f: &mut fmt::Formatter) -> fmt::Result {
+        let from = |least: Alike| self.pairs.range(least..).map(|(_, n)| n).sum::<u64>();
+        let (all, untied) = (from(Alike::Tied), from(Alike::PhaseTwo));
+        writeln!(
+            f,
+            "load order: {all} pairs, {} tied (tied step alike), {untied} untied (also phase-two \
+             step), {} of these without phase two (also refusal and place), {} of these complete \
+             (also L, e and p)",
+            all - untied,
+            from(Alike::Refused),
+            from(Alike::Complete)
+        )
+    }
+}
+
+fn sum(x: Row, y: &Row) -> Row {
+    Row {
+        runs: x.runs + y.runs,
+        complete: x.complete + y.complete,
+        refused: x.refused + y.refused,
+        tied: x.tied + y.tied,
+        phase_two: x.phase_two + y.phase_two,
+    }
+}
+
+fn line(f: &mut fmt::Formatter, name: &str, range: &str, row: &Row) -> fmt::Result {
+    writeln!(
+        f,
+        "{name:6} {range:5} {:7} {:9} {:9} {:7} {:10}",
+        row.runs, row.complete, row.refused, row.tied, row.phase_two
+    )
+}
+
+fn by_refusal(counts: &BTreeMap<usize, u64>) -> String {
+    let words: Vec<String> = counts.iter().map(|(r, n)| format!("{r}: {n}")).collect();
+    words.join(", ")
+}
+
+impl fmt::Display for Report {
+    fn fmt(&self, f: &mut fmt::Formatter) -> fmt::Result {
+        self.runs(f)?;
+        self.pairs(f)?;
+        writeln!(
+            f,
+            "last blocks on which SE90 and SE99 differ: {}",
+            self.last_blocks
+        )?;
+        writeln!(f, "broken records by refusal: {}", by_refusal(&self.broken))?;
+        for (call, counts) in &self.calls {
+            writeln!(f, "{call} by refusal: {}", by_refusal(counts))?;
+        }
+        let seconds = self.began.elapsed().as_secs_f64();
+        writeln!(f, "{} runs in {seconds:.1} s", self.total())?;
+        if let Some((first, _)) = self.differences {
+            writeln!(f, "first difference at index {first}")?;
+        }
+        writeln!(f, "{} differences", self.count())
+    }
+}
