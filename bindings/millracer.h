@@ -114,7 +114,7 @@ millracer_refusal millracer_diag_mat_from_arr(const double *arr, size_t arr_len,
 
 /* The Gershgorin circles of the rows of mat, symmetric or not: centres and radii have n entries.
  * Refusal 9 at a row whose sum of magnitudes is infinite writes +0.0 over both. */
-millracer_refusal millracer_gershgorin_circles(size_t n, const double *mat, size_t mat_len, double *centres,
+millracer_refusal millracer_gershgorin_circles(const double *mat, size_t mat_len, size_t n, double *centres,
                                                size_t centres_len, double *radii, size_t radii_len);
 
 #ifdef __cplusplus

@@ -53,7 +53,7 @@ static void matrices(void) {
   EXPECT(is(millracer_diag_mat_from_arr((double[]){5, 6}, 2, mat, 3), MILLRACER_BUFFER_LENGTH, 0, 0));
 
   double centres[2], radii[2];
-  EXPECT(is(millracer_gershgorin_circles(2, (double[]){1, -2, 3, 4}, 4, centres, 2, radii, 2), 0, 0, 0));
+  EXPECT(is(millracer_gershgorin_circles((double[]){1, -2, 3, 4}, 4, 2, centres, 2, radii, 2), 0, 0, 0));
   EXPECT(same(centres, (double[]){1, 4}, 2) && same(radii, (double[]){2, 2}, 2));
 }
 

@@ -10,8 +10,19 @@ use crate::{GMW81, SE99};
 use rng::Rng;
 use symmetric::Symmetric;
 
-#[derive(Clone, Copy, Debug, PartialEq)]
-pub enum Kind {
+macro_rules! kinds {
+    ($($kind:ident,)*) => {
+        #[derive(Clone, Copy, Debug, PartialEq)]
+        pub enum Kind {
+            $($kind,)*
+        }
+
+        /// Every kind once.
+        pub const KINDS: [Kind; [$(Kind::$kind),*].len()] = [$(Kind::$kind),*];
+    };
+}
+
+kinds! {
     PositiveDefinite,
     Indefinite,
     NearSingular,
@@ -31,26 +42,6 @@ pub enum Kind {
 }
 
 use Kind::*;
-
-/// Every kind once.
-pub const KINDS: [Kind; 16] = [
-    PositiveDefinite,
-    Indefinite,
-    NearSingular,
-    EqualDiagonals,
-    ZeroDiagonals,
-    TiedByRounding,
-    SmallIntegers,
-    WideMagnitudes,
-    SignedZeros,
-    Subnormal,
-    Huge,
-    RangeEnds,
-    OverflowHalfWay,
-    PhaseTwoAtStep,
-    RefusedAtStep,
-    LastBit,
-];
 
 /// One round of kinds. Those that aim at a step come more often, so that few cases reach each step.
 const ROUND: [Kind; 24] = [

@@ -86,9 +86,9 @@ extern "C" {
         mat_len: usize,
     ) -> Refusal;
     pub fn millracer_gershgorin_circles(
-        n: usize,
         mat: *const f64,
         mat_len: usize,
+        n: usize,
         centres: *mut f64,
         centres_len: usize,
         radii: *mut f64,

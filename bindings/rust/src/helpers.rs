@@ -71,9 +71,9 @@ pub fn gershgorin_circles(mat: &[f64], n: usize) -> Result<Vec<(f64, f64)>, Refu
     let (mut centres, mut radii) = (vec![0.0; size], vec![0.0; size]);
     ended(unsafe {
         ffi::millracer_gershgorin_circles(
-            n,
             mat.as_ptr(),
             mat.len(),
+            n,
             centres.as_mut_ptr(),
             centres.len(),
             radii.as_mut_ptr(),

@@ -10,8 +10,7 @@ use Rattle.matrix.specs.declared.utils.EigenAnswer.{EigenAnswer}
 use Rattle.matrix.specs.declared.utils.SearchAnswer.{SearchAnswer}
 use Rattle.methods.specs.Calls.{Call}
 use Rattle.methods.specs.declared.decomposition.Decomposition.{Decomposition}
-use Rattle.methods.specs.declared.decomposition.Mark.{Mark}
-use Rattle.methods.specs.declared.decomposition.Mark.the-variants.{Never, Step}
+use Rattle.record.specs.AnswerRecord.{step-byte}
 use Rattle.exports.specs.declared.refusal.Refusal.{Refusal}
 use Rattle.exports.specs.declared.root.Root.{Root}
 use Rattle.exports.specs.declared.helpers.Eigenvalues.{Eigenvalues}
@@ -21,11 +20,6 @@ use Rattle.exports.specs.declared.factor.Factorization.{Factorization}
 -- ---- numbers
 abbrev pub refusal : Outcome → Refusal
 refusal o = record { number = number o; row = place o .row; column = place o .column }
-
--- as in the records: 255 for none
-abbrev pub stepNumber : Mark → ℕ
-stepNumber Never = 255
-stepNumber (Step j) = j
 
 -- ---- what is handed back by value
 abbrev pub root : SqrtAnswer → Root
@@ -37,8 +31,9 @@ eigenvalues a = record { refusal = refusal (a .outcome); hi = a .eigen .hi; lo =
 abbrev pub found : SearchAnswer → FoundIndex
 found a = record { refusal = refusal (a .outcome); index = a .index }
 
+-- the steps are the numbers that stand in a record: 255 for none
 abbrev pub factorization : Decomposition → Factorization
-factorization d = record { refusal = refusal (d .outcome); tied = stepNumber (d .tied); phase2 = stepNumber (d .phase2) }
+factorization d = record { refusal = refusal (d .outcome); tied = step-byte (d .tied); phase2 = step-byte (d .phase2) }
 
 -- ---- with the buffers lent
 pub record MatrixExport : Type 0 where

@@ -1,7 +1,8 @@
 // The factorizations, by document 01's number of the method.
 ghost use mathlib.Core.Path.{_≡_};
 ghost use Rattle.methods.specs.Calls.{numbered-call};
-ghost use Rattle.exports.specs.Exports.{stepNumber, factorization, factorExport};
+ghost use Rattle.record.specs.AnswerRecord.{step-byte};
+ghost use Rattle.exports.specs.Exports.{factorization, factorExport};
 use crate::refusal::Refusal;
 use methods::decomposition::Decomposition;
 use methods::decomposition::Mark;
@@ -31,7 +32,7 @@ impl Factorization {
 }
 
 fn step_number(mark: Mark) -> usize
-    ensures { λ r. ⌜ r ≡ stepNumber mark ⌝ }
+    ensures { λ r. ⌜ r ≡ step-byte mark ⌝ }
 {
     match mark {
         Mark::Never => 255,

@@ -116,8 +116,8 @@ pub extern "C" fn millracer_diag_mat_from_arr(arr: &[f64], mat: &mut [f64]) -> R
 
 #[no_mangle]
 pub extern "C" fn millracer_gershgorin_circles(
-    n: usize,
     mat: &[f64],
+    n: usize,
     centres: &mut [f64],
     radii: &mut [f64],
 ) -> Refusal

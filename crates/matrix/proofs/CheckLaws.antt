@@ -4,12 +4,13 @@ use mathlib.Core.List.{List}
 use mathlib.Core.Bool.{Bool, true, false, not, _||_, true≢false}
 use Prim.Native.Nat.{ℕ, suc, _+_, _-_, _*_, _≤_, _<_}
 use native.Mathlib.Nat.{sub-zero}
+use native.Mathlib.Decide.{decLt}
 use native.Mathlib.Numerals.{add-one}
 use native.Mathlib.Omega.{arith}
 use lib.ListN.{length, getD}
 use lib.Dec.{eqb, leb, ltb}
 use lib.Ieee.{Float}
-use borrow.Author.Tests.{not-true, not-false, eqb-true, eqb-false, ltb-false, leb-false}
+use borrow.Author.Tests.{not-true, not-false, eqb-true, eqb-false, ltb-false, leb-false, le-leb, lt-leb}
 use Rattle.arithmetic.specs.First.{first, firstFrom, first-is}
 use Rattle.arithmetic.specs.Outcome.{complete, _then_, then-complete, refuse-complete}
 use Rattle.arithmetic.specs.declared.outcome.Outcome.{Outcome}
@@ -33,6 +34,23 @@ module _ (bad : ℕ → Bool) (i n : ℕ) where
   pub search-end : i ≤ n → n ≤ i → firstFrom bad i (n - i) ≡ n
   unfolding firstFrom
   search-end h k = let s : n - i ≡ 0 = omega arith in let e : i ≡ n = omega arith in rw (s, e)
+
+-- ---- a loop that asks whether the first bad position is at or after i
+module _ (bad : ℕ → Bool) (i n : ℕ) where
+  pub none-turn : i < n → bad i ≡ false → leb i (first bad n) ≡ leb (i + 1) (first bad n)
+  none-turn h e = elim (decLt i (first bad n)) [
+    | yes p ↦ le-leb i (first bad n) (omega arith) ∙ sym (le-leb (i + 1) (first bad n) (omega arith))
+    | no q ↦ lt-leb i (first bad n) (omega (arith, other q)) ∙ sym (lt-leb (i + 1) (first bad n) (omega arith))
+  ]
+    where
+      other : (i < first bad n → ⊥) → first bad n ≡ i → ⊥
+      other q d = true≢false (sym (first-is bad n .here (omega arith)) ∙ ap bad d ∙ e)
+
+  pub some-turn : i < n → bad i ≡ true → false ≡ leb (i + 1) (first bad n)
+  some-turn h e = elim (decLt i (first bad n)) [
+    | yes p ↦ absurd (true≢false (sym e ∙ first-is bad n .good i (omega arith) p))
+    | no q ↦ sym (lt-leb (i + 1) (first bad n) (omega arith))
+  ]
 
 -- ---- one check of a chain, in code: it is run, its answer asked whether it is complete, and returned where it is not
 pub record Accepted (o : Outcome) : Type 0 where

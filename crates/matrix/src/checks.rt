@@ -2,6 +2,7 @@
 ghost use mathlib.Core.Path.{_≡_};
 ghost use Prim.Native.Nat.{ℕ, _+_, _*_, _/_, _%_, _<_, _≤_};
 ghost use lib.ListN.{length};
+ghost use lib.Dec.{leb};
 ghost use Rattle.matrix.specs.Matrix.{Square};
 ghost use Rattle.matrix.specs.Checks.{check-size, check-some, check-matrix, check-buffer, check-index, check-indices, check-finite, check-symmetric, firstNotFinite, firstMismatch, AllFinite};
 use crate::entries::get;
@@ -69,6 +70,20 @@ pub fn check_indices(n: usize, idxs: &[usize]) -> Outcome
     Outcome::Complete
 }
 
+// Without an early end, so that the machine can test several entries at once.
+fn all_finite(m: &[f64]) -> bool
+    ensures { λ r. ⌜ r ≡ leb (length (now (m .entry))) (firstNotFinite (now (m .entry))) ⌝ }
+{
+    let len = m.len();
+    let mut ok = true;
+    for k in 0..len {
+        if !finite(m[k]) {
+            ok = false;
+        }
+    }
+    ok
+}
+
 // The position of the first entry that is not finite, or the length.
 fn first_not_finite(m: &[f64]) -> usize
     ensures { λ r. ⌜ r ≡ firstNotFinite (now (m .entry)) ⌝ }
@@ -86,14 +101,14 @@ pub fn check_finite(n: usize, m: &[f64]) -> Outcome
     requires { ⌜ 0 < n ⌝ }
     ensures { λ r. ⌜ r ≡ check-finite n (now (m .entry)) ⌝ }
 {
-    let k = first_not_finite(m);
-    if k < m.len() {
-        return Outcome::NotFinite {
-            row: k / n,
-            column: k % n,
-        };
+    if all_finite(m) {
+        return Outcome::Complete;
     }
-    Outcome::Complete
+    let k = first_not_finite(m);
+    Outcome::NotFinite {
+        row: k / n,
+        column: k % n,
+    }
 }
 
 // The first column after i at which row i has other bits than column i, or n.

@@ -246,7 +246,7 @@ fn circles(rng: &mut Rng) -> Called {
         },
     };
     let port = Outcome {
-        refusal: port::gershgorin_circles(n, &matrix, &mut centres, &mut radii),
+        refusal: port::gershgorin_circles(&matrix, n, &mut centres, &mut radii),
         values: bits(&[centres, radii].concat()),
     };
     called("gershgorin_circles", port, wanted)

@@ -96,16 +96,16 @@ pub fn diag_mat_from_arr(arr: &[f64], mat: &mut [f64]) -> Refusal {
 }
 
 pub fn gershgorin_circles(
-    n: usize,
     mat: &[f64],
+    n: usize,
     centres: &mut [f64],
     radii: &mut [f64],
 ) -> Refusal {
     refusal(unsafe {
         ffi::millracer_gershgorin_circles(
-            n,
             mat.as_ptr(),
             mat.len(),
+            n,
             centres.as_mut_ptr(),
             centres.len(),
             radii.as_mut_ptr(),

@@ -1,22 +1,28 @@
 use borrow.Author.Needs.{needs}
-use borrow.Author.Tests.{lt-ltb, le-ltb}
+use borrow.Author.Tests.{leb-true, leb-false, lt-ltb, le-ltb}
+use mathlib.Core.Path.{sym, _∙_}
 use Rattle.matrix.proofs.checks.check_finite.Statement.{statement}
 use Rattle.matrix.proofs.checks.check_finite.Tie as tie
+
+all-finite-requires : tie.Need-all-finite-requires
+all-finite-requires c κs = search needs
+
+returns : tie.Need-returns
+returns c = rw (le-ltb _ _ (leb-true _ _ (sym (c .before .all-finite .ensures) ∙ c .if1 .taken)))
 
 first-not-finite-requires : tie.Need-first-not-finite-requires
 first-not-finite-requires c κs = search needs
 
-div-t6 : tie.Need-div-t6
-div-t6 c = search needs
+div-t5 : tie.Need-div-t5
+div-t5 c = search needs
 
-rem-t7 : tie.Need-rem-t7
-rem-t7 c = search needs
-
-returns : tie.Need-returns
-returns c = rw (← c .before .first-not-finite .ensures, lt-ltb _ _ (c .if1 .taken))
+rem-t6 : tie.Need-rem-t6
+rem-t6 c = search needs
 
 returns-2 : tie.Need-returns-2
-returns-2 c = rw (← c .before .first-not-finite .ensures, le-ltb _ _ (c .if1 .left))
+returns-2 c =
+    let e = c .before in
+    rw (c .first-not-finite .ensures, lt-ltb _ _ (leb-false _ _ (sym (e .before .all-finite .ensures) ∙ e .if1 .left)))
 
 pub check-finite-spec : {M : Type 1} → statement M
-check-finite-spec = tie.close (tie.spec first-not-finite-requires div-t6 rem-t7 returns returns-2)
+check-finite-spec = tie.close (tie.spec all-finite-requires returns first-not-finite-requires div-t5 rem-t6 returns-2)
