@@ -1,17 +1,17 @@
 -- What the tests in src/double.rt and src/sqrt.rt say of an operand.
 use mathlib.Core.Path.{_≡_, refl, sym, ap, _∙_, subst}
-use mathlib.Core.Bool.{Bool, true, false, not, _&&_, _||_, cond, Bool·beq, true≢false, false≢true}
+use mathlib.Core.Bool.{Bool, true, false, not, _&&_, _||_, cond, Bool·beq, false≢true}
 use Prim.Native.Nat.{ℕ, zero, suc, _+_, _-_, _*_, _<_}
 use native.Mathlib.Omega.{arith}
 use native.Mathlib.Nat.{mul-pos, zero-mul, zero-lt-suc}
-use lib.IntN.{ℤ, pos, negsuc}
+use lib.IntN.{ℤ}
 use lib.Dec.{T, eqb, ltb, eqb→eq, ltb→lt, lt→ltb, eqb-refl}
 use lib.Ieee.{Float, nan, inf, fin, binary64, ofBits, up, down, neg, add, sub, sum, round, lt, eq, ne, level, isNan, fits}
 use lib.Ieee.Bits.{is-true}
 use lib.Ieee.Fits.{up-pos, down-pos, and-l}
 use lib.Ieee.Scale.{finite, round-same}
 use Rattle.arithmetic.specs.Double.{plus-zero, abs}
-use Rattle.arithmetic.specs.Same.{zero-exp}
+use Rattle.arithmetic.specs.Same.{zero-exp, beq-self}
 
 pub holds : {b : Bool} → b ≡ true → T b
 holds e = subst T (sym e) tt
@@ -110,12 +110,8 @@ unfolding ne eq isNan
 nan-test nan = refl
 nan-test (inf true) = refl
 nan-test (inf false) = refl
-nan-test (fin s m e) = ap not (both (eqb (m * up e * down e) (m * up e * down e)) (Bool·beq s s) (is-true _ (eqb-refl (m * up e * down e))) (same s))
+nan-test (fin s m e) = ap not (both (eqb (m * up e * down e) (m * up e * down e)) (Bool·beq s s) (is-true _ (eqb-refl (m * up e * down e))) (beq-self s))
   where
-    same : (b : Bool) → Bool·beq b b ≡ true
-    same true = refl
-    same false = refl
-
     both : (a b : Bool) → a ≡ true → b ≡ true → a && (b || eqb (m * up e * down e) 0) ≡ true
     both a b p q = rw (p, q)
 

@@ -25,6 +25,10 @@ lt-square {a} {b} h = omega (arith, lt-of-not-le (λ (g : b + 1 ≤ a). not-le-o
 pub less-root : {a b : ℕ} → a * a < b * b → a < b
 less-root {a} {b} h = lt-of-not-le (λ (g : b ≤ a). not-le-of-lt h (mul-le-mul g g))
 
+-- what has a square above something is not 0
+pub some-root : (r a : ℕ) → a < r * r → 0 < r
+some-root r a h = less-root {a = 0} {b = r} (omega arith)
+
 pub whole-unique : (n r s : ℕ) → Whole n r → Whole n s → r ≡ s
 whole-unique n r s p q = le-antisymm (lt-square (lt-of-le-of-lt (p .under) (q .over))) (lt-square (lt-of-le-of-lt (q .under) (p .over)))
 

@@ -1,14 +1,15 @@
 -- Order laws of doubles: `lt` is irreflexive and transitive, off NaN it is cotransitive and total up to `eq`, and nothing lies above infinity.
 use mathlib.Core.Path.{_≡_, refl, sym, _∙_}
-use mathlib.Core.Bool.{Bool, true, false, _&&_, _||_, Bool·beq, true≢false, false≢true}
+use mathlib.Core.Bool.{Bool, true, false, not, _&&_, _||_, Bool·beq, true≢false, false≢true}
 use Prim.Native.Nat.{ℕ, _+_, _*_, _≤_, _<_}
 use native.Mathlib.Nat.{mul-right-comm, mul-pos, mul-lt-mul-of-pos-right, mul-le-mul-right}
 use native.Mathlib.Decide.{decLt}
 use native.Mathlib.Omega.{arith}
-use lib.Dec.{ltb, eqb}
+use lib.Dec.{T, ltb, eqb}
 use borrow.Author.Tests.{ltb-true, ltb-false, lt-ltb, le-ltb, eqb-true, eq-eqb}
 use lib.Ieee.{Float, nan, inf, fin, up, down, lt, eq, below, level, isNan}
 use lib.Ieee.Fits.{down-pos}
+use lib.Ieee.Scale.{finite}
 
 -- ---- signed numbers: `below s a t b` is ±a < ±b, and scaling both sides changes nothing
 ltb-scale : (a b r : ℕ) → 0 < r → ltb (a * r) (b * r) ≡ ltb a b
@@ -70,6 +71,14 @@ and-1 false b e = e
 pub and-2 : (a b : Bool) → a && b ≡ true → b ≡ true
 and-2 true b e = e
 and-2 false b e = absurd (false≢true e)
+
+pub or-1 : (a b : Bool) → a || b ≡ false → a ≡ false
+or-1 true b e = e
+or-1 false b e = refl
+
+pub or-2 : (a b : Bool) → a || b ≡ false → b ≡ false
+or-2 true b e = absurd (true≢false e)
+or-2 false b e = e
 
 below-level : (s t : Bool) (a b : ℕ) → level s a t b ≡ true → below s a t b ≡ false
 below-level true true a b p = le-ltb b a (omega (arith, eqb-true a b (and-1 (eqb a b) true p)))
@@ -201,6 +210,15 @@ unfolding lt isNan
 lt-left-number nan y p = absurd (false≢true p)
 lt-left-number (inf s) y p = refl
 lt-left-number (fin s m e) y p = refl
+
+pub finite-number : (x : Float) → finite x ≡ true → isNan x ≡ false
+unfolding isNan
+finite-number nan p = absurd (false≢true p)
+finite-number (inf s) p = absurd (false≢true p)
+finite-number (fin s m e) p = refl
+
+pub finite-not-nan : (x : Float) → finite x ≡ true → T (not (isNan x))
+finite-not-nan x p = rw (finite-number x p) tt
 
 pub none-above-infinity : (x : Float) → lt (inf false) x ≡ false
 unfolding lt

@@ -76,13 +76,17 @@ one-way m n (negsuc a) (negsuc b) o p h =
     let r = odd-pow m n (suc b) (suc a) o p (ap (λ (x : ℕ). x * 2 ^ suc b) (sym (mul-one m)) ∙ h ∙ ap (λ (x : ℕ). x * 2 ^ suc a) (mul-one n)) in
     (r .0, ap negsuc (suc-inj (sym (r .1))))
 
+pub beq-self : (b : Bool) → Bool·beq b b ≡ true
+beq-self true = refl
+beq-self false = refl
+
 abbrev pub signOf : Float → Bool
 signOf nan = false
 signOf (inf s) = s
 signOf (fin s m e) = s
 
-pos3 : (n : ℕ) (d e : ℤ) → 0 < suc n * up d * down e
-pos3 n d e = mul-pos (mul-pos (zero-lt-suc n) (up-pos d)) (down-pos e)
+pub product-pos : (n : ℕ) (d e : ℤ) → 0 < suc n * up d * down e
+product-pos n d e = mul-pos (mul-pos (zero-lt-suc n) (up-pos d)) (down-pos e)
 
 -- so doubles that are equal have the same bits, unless both are zeros
 pub same-double : (f : Format) (x y : Float) → T (fits f x) → T (fits f y) → signOf x ≡ signOf y → eq x y ≡ true → x ≡ y
@@ -96,10 +100,10 @@ same-double f (fin a m e) (inf b) p q s h = absurd (false≢true h)
 same-double f (fin a zero e) (fin b zero d) p q s h = λ i. fin (s i) zero ((zero-exp f a e p ∙ sym (zero-exp f b d q)) i)
 same-double f (fin a zero e) (fin b (suc n) d) p q s h =
     let k : zero * up e * down d ≡ suc n * up d * down e = eqb-true (zero * up e * down d) (suc n * up d * down e) (and-1 (eqb (zero * up e * down d) (suc n * up d * down e)) (Bool·beq a b || eqb (zero * up e * down d) 0) h) in
-    absurd (omega (arith, k, pos3 n d e))
+    absurd (omega (arith, k, product-pos n d e))
 same-double f (fin a (suc m) e) (fin b zero d) p q s h =
     let k : suc m * up e * down d ≡ zero * up d * down e = eqb-true (suc m * up e * down d) (zero * up d * down e) (and-1 (eqb (suc m * up e * down d) (zero * up d * down e)) (Bool·beq a b || eqb (suc m * up e * down d) 0) h) in
-    absurd (omega (arith, k, pos3 m e d))
+    absurd (omega (arith, k, product-pos m e d))
 same-double f (fin a (suc m) e) (fin b (suc n) d) p q s h =
     let k : suc m * up e * down d ≡ suc n * up d * down e = eqb-true (suc m * up e * down d) (suc n * up d * down e) (and-1 (eqb (suc m * up e * down d) (suc n * up d * down e)) (Bool·beq a b || eqb (suc m * up e * down d) 0) h) in
     let r = one-way (suc m) (suc n) e d (is-odd f a m e p) (is-odd f b n d q) k in

@@ -1,15 +1,13 @@
 -- How two runs end, and that what is handed back is then alike: one argument for the three methods.
-use mathlib.Core.Path.{_≡_, refl, sym, ap, ap₂, _∙_}
+use mathlib.Core.Path.{_≡_, refl, sym, _∙_}
 use mathlib.Core.List.{List}
-use Prim.Native.Nat.{ℕ, _*_, _<_}
+use Prim.Native.Nat.{ℕ, _<_}
 use native.Mathlib.Omega.{arith}
-use lib.ListN.{length, getD, getD-replicate}
+use lib.ListN.{getD, getD-replicate}
 use lib.Ieee.{Float, nan}
 use Rattle.arithmetic.specs.Double.{plus-zero}
-use Rattle.arithmetic.specs.declared.outcome.Outcome.{Outcome}
 use Rattle.arithmetic.specs.declared.outcome.Outcome.the-variants.{Complete, StoredNotFinite}
-use Rattle.matrix.specs.Matrix.{zeros}
-use Rattle.methods.specs.Result.{Result, handBack, outcomeOf, filled, filledOrder}
+use Rattle.methods.specs.Result.{Result, handBack}
 use Rattle.methods.specs.declared.decomposition.Mark.{Mark}
 use Rattle.methods.specs.declared.decomposition.Mark.the-variants.{Never, Step}
 use Rattle.load_order.specs.LoadOrder.{LoadOrder, AlikeThroughout, Alike}

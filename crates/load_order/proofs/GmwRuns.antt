@@ -1,57 +1,47 @@
 -- Two runs of GMW81 in step, and how they end.
 use mathlib.Core.Path.{_≡_, refl, sym, ap, ap₂, _∙_, subst}
 use mathlib.Core.List.{List}
-use mathlib.Core.Bool.{Bool, true, false, not, _&&_, cond, true≢false, false≢true}
-use Prim.Native.Nat.{ℕ, suc, _+_, _-_, _*_, _≤_, _<_}
+use mathlib.Core.Bool.{Bool, true, false, not, _&&_, false≢true}
+use Prim.Native.Nat.{ℕ, suc, _+_, _≤_, _<_}
 use native.Mathlib.Omega.{arith}
 use lib.ListN.{length, getD, set, length-set, length-replicate}
 use lib.Ieee.{Float, nan, isNan}
 use lib.Ieee.Fits.{sub-fits}
 use lib.Ieee.Scale.{finite}
 use lib.Ieee.{binary64}
-use Rattle.arithmetic.specs.Double.{plus-zero, _⊖_, _⊘_, square, abs, max}
+use Rattle.arithmetic.specs.Double.{plus-zero, _⊖_}
 use Rattle.arithmetic.specs.Loop.{range, range2-ind}
+use Rattle.arithmetic.specs.Order.{finite-number}
 use Rattle.matrix.specs.Matrix.{at}
-use Rattle.matrix.specs.Table.{table, length-table}
 use Rattle.matrix.specs.Search.{largest}
-use Rattle.matrix.proofs.SwapLaws.{transpose}
-use Rattle.matrix.proofs.Bijection.{Is, is, holds, fails, Bijection, Fixes, bijection-from, bijection-turned, turned, turned-fixes, Along}
+use Rattle.matrix.proofs.Bijection.{Is, is, holds, fails, Bijection, Fixes, bijection-from}
 use Rattle.methods.specs.Marks.{mark, marked}
 use Rattle.methods.specs.Statements.{diagonalMax, diagonalFrom, pivotMatrix, pivotList, reorder, all}
 use Rattle.methods.specs.Gmw81.{Run, start, divideRow, column, dot, thetaOf, dOf, updateDiagonal, storedFinite, stepAt, step, doutOf, unitLower, product, scaledFinite, finish, run, offDiagonalMax, deltaOf, betaOf}
 use Rattle.methods.specs.declared.decomposition.Mark.{Mark}
 use Rattle.methods.specs.declared.decomposition.Mark.the-variants.{Never, Step}
-use Rattle.methods.proofs.Tests.{Double, finite-number, all-each, all-true, all-along}
+use Rattle.methods.proofs.Tests.{Double, all-each, all-same, all-along}
 use Rattle.methods.proofs.Magnitudes.{offDiagonalMax-along}
-use Rattle.methods.proofs.Moved.{Moved, moved-same, pivot-entries, pivot-moved, length-pivot, pivot-order}
-use Rattle.methods.proofs.Reordered.{Order, reorder-along}
+use Rattle.methods.proofs.Moved.{Moved, moved-same, pivot-moved}
+use Rattle.methods.proofs.Reordered.{reorder-along}
+use Rattle.methods.proofs.GmwLaws.{step-stays, step-goes, finish-stays}
 use Rattle.methods.proofs.GmwSteps.{column-at, diagonal-other, row-moved, row-fixed, column-moved, diagonal-moved, theta-moved, start-at, start-moved}
-use Rattle.load_order.specs.LoadOrder.{LoadOrder}
 use Rattle.load_order.proofs.Inverse.{order}
 use Rattle.methods.proofs.Pivots.{pick-below}
-use Rattle.load_order.proofs.Picks.{mark-set, mark-clear, mark-keeps, picks-tied, picks-correspond, pivot-permutes, identity-permutes}
+use Rattle.load_order.proofs.Picks.{mark-set, mark-clear, mark-keeps, picks-tied, picks-correspond}
+use Rattle.load_order.proofs.Positions.{Positions, loaded-positions, pivot-positions}
 use Rattle.load_order.proofs.Ends.{End, Ended, both-tied, both-refused, both-complete}
-use Rattle.load_order.proofs.SeRuns.{Loaded, all-double, gamma-same, identity-own}
+use Rattle.load_order.proofs.SeRuns.{Loaded, all-double, gamma-same}
 
--- position x of the second run holds the contract of position σ x of the first; s is the load order
+-- A and B before step j; s is the load order
 record InStep (n : ℕ) (s : ℕ → ℕ) (j : ℕ) (A B : Run) : Type 0 where
-  σ : ℕ → ℕ
-  τ : ℕ → ℕ
-  bijection : Bijection 0 n σ τ
-  fixes : Fixes n j σ
-  moved-l : Moved n σ (A .l) (B .l)
-  moved-c : Moved n σ (A .c) (B .c)
+  positions : Positions n s j (A .p) (B .p)
+  moved-l : Moved n (positions .σ) (A .l) (B .l)
+  moved-c : Moved n (positions .σ) (A .c) (B .c)
   finite-c : (i : ℕ) → j ≤ i → i < n → finite (at n (A .c) i i) ≡ true
   same-d : A .d ≡ B .d
   same-e : A .e ≡ B .e
   lengthE : length (A .e) ≡ n
-  lengthA : length (A .p) ≡ n
-  lengthB : length (B .p) ≡ n
-  own : (x : ℕ) → x < n → s (getD (B .p) x 0) ≡ getD (A .p) (σ x) 0
-  inverseA : ℕ → ℕ
-  inverseB : ℕ → ℕ
-  orderA : Order n (A .p) inverseA
-  orderB : Order n (B .p) inverseB
   tied : A .tied ≡ B .tied
   refusedA : A .refused ≡ Never
   refusedB : B .refused ≡ Never
@@ -84,18 +74,21 @@ parts-diagonal false column false d e h = absurd (false≢true h)
 
 -- ---- one step, the picks corresponding
 module _ (n : ℕ) (delta beta : Float) (s : ℕ → ℕ) (j : ℕ) (A B : Run) (L : InStep n s j A B)
-    (a b : ℕ) (tie : Bool) (pj : j < n) (pa : j + a < n) (pb : j + b < n) (corresponds : L .σ (j + b) ≡ j + a) where
+    (a b : ℕ) (tie : Bool) (pj : j < n) (pa : j + a < n) (pb : j + b < n) (corresponds : L .positions .σ (j + b) ≡ j + a) where
+  abbrev next : Positions n s (suc j) (pivotList 0 j a (A .p)) (pivotList 0 j b (B .p))
+  next = pivot-positions n s j (A .p) (B .p) (L .positions) a b pj pa pb corresponds
+
   abbrev σ₁ : ℕ → ℕ
-  σ₁ = turned j (j + a) (j + b) (L .σ)
+  σ₁ = next .σ
 
   abbrev τ₁ : ℕ → ℕ
-  τ₁ = turned j (j + b) (j + a) (L .τ)
+  τ₁ = next .τ
 
   P₁ : Bijection 0 n σ₁ τ₁
-  P₁ = bijection-turned n j (j + a) (j + b) (L .σ) (L .τ) (L .bijection) pj pa pb
+  P₁ = next .bijection
 
   f₁ : Fixes n (j + 1) σ₁
-  f₁ = turned-fixes n j (j + a) (j + b) (L .σ) (L .fixes) (omega arith) (omega arith) corresponds
+  f₁ x h q = next .fixes x (omega arith) q
 
   -- the two runs' values, named as in the step
   abbrev c₁A : List Float
@@ -135,12 +128,12 @@ module _ (n : ℕ) (delta beta : Float) (s : ℕ → ℕ) (j : ℕ) (A B : Run) 
   eB = dB ⊖ at n c₃B j j
 
   C₁ : Moved n σ₁ c₁A c₁B
-  C₁ = pivot-moved n j a b (L .σ) (L .τ) (A .c) (B .c) pj pa pb (L .bijection) (L .moved-c)
+  C₁ = pivot-moved n j a b (L .positions .σ) (L .positions .τ) (A .c) (B .c) pj pa pb (L .positions .bijection) (L .moved-c)
 
   L₂ : Moved n σ₁ l₂A l₂B
   L₂ = subst (λ (d : List Float). Moved n σ₁ l₂A (divideRow n j c₁B d (pivotMatrix n j b (B .l)))) (L .same-d)
       (row-moved n j σ₁ τ₁ pj P₁ f₁ c₁A c₁B (A .d) (pivotMatrix n j a (A .l)) (pivotMatrix n j b (B .l)) C₁
-      (pivot-moved n j a b (L .σ) (L .τ) (A .l) (B .l) pj pa pb (L .bijection) (L .moved-l)))
+      (pivot-moved n j a b (L .positions .σ) (L .positions .τ) (A .l) (B .l) pj pa pb (L .positions .bijection) (L .moved-l)))
 
   C₂ : Moved n σ₁ c₂A c₂B
   C₂ = column-moved n j σ₁ τ₁ pj P₁ f₁ l₂A l₂B c₁A c₁B L₂ C₁
@@ -198,9 +191,7 @@ module _ (n : ℕ) (delta beta : Float) (s : ℕ → ℕ) (j : ℕ) (A B : Run) 
     same-e = ap₂ _⊖_ same-d (corner C₃)
 
     same-row : okRowA ≡ okRowB
-    same-row = all-along 0 j (λ k. k) (λ k. k) (λ k. finite (at n l₂A j k)) (λ k. finite (at n l₂B j k)) (omega arith)
-        (record { to-low = λ i p q. p; to-high = λ i p q. q; from-low = λ i p q. p; from-high = λ i p q. q; to-from = λ i p q. refl; from-to = λ i p q. refl })
-        (λ k p q. ap finite (row-fixed n j σ₁ τ₁ pj P₁ f₁ l₂A l₂B L₂ k q))
+    same-row = all-same 0 j (λ k. finite (at n l₂A j k)) (λ k. finite (at n l₂B j k)) (omega arith) (λ k p q. ap finite (sym (row-fixed n j σ₁ τ₁ pj P₁ f₁ l₂A l₂B L₂ k q)))
 
     same-diagonal : okDiagonalA ≡ okDiagonalB
     same-diagonal = all-along (j + 1) n σ₁ τ₁ (λ i. finite (at n c₃A i i)) (λ i. finite (at n c₃B i i)) (omega arith) (bijection-from n (j + 1) σ₁ τ₁ P₁ f₁) (λ i p q. ap finite (C₃ .moved i i q q))
@@ -231,23 +222,13 @@ module _ (n : ℕ) (delta beta : Float) (s : ℕ → ℕ) (j : ℕ) (A B : Run) 
       go (fails h) k = refused j marks (mark-set (A .refused) _ j (L .refusedA) (ap not (bad-column h .0))) (mark-set (B .refused) _ j (L .refusedB) (ap not (bad-column h .1)))
       go (holds h) (fails k) = refused j marks (mark-set (A .refused) _ j (L .refusedA) (ap not k)) (mark-set (B .refused) _ j (L .refusedB) (ap not (sym (same-stored h) ∙ k)))
       go (holds h) (holds k) = on (record {
-        σ = σ₁;
-        τ = τ₁;
-        bijection = P₁;
-        fixes = λ x u q. f₁ x (omega arith) q;
+        positions = next;
         moved-l = L₂;
         moved-c = C₃ h;
         finite-c = good-diagonal k;
         same-d = ap₂ (λ (u : List Float) (v : Float). set u j v) (L .same-d) (same-d h);
         same-e = ap₂ (λ (u : List Float) (v : Float). set u j v) (L .same-e) (same-e h);
         lengthE = length-set (A .e) j eA ∙ L .lengthE;
-        lengthA = length-pivot 0 j a (A .p) ∙ L .lengthA;
-        lengthB = length-pivot 0 j b (B .p) ∙ L .lengthB;
-        own = pivot-order n j a b s (L .σ) (A .p) (B .p) pa pb (L .lengthA) (L .lengthB) (L .own);
-        inverseA = λ r. transpose j (j + a) (L .inverseA r);
-        inverseB = λ r. transpose j (j + b) (L .inverseB r);
-        orderA = pivot-permutes n j a (A .p) (L .inverseA) (L .lengthA) pa (L .orderA);
-        orderB = pivot-permutes n j b (B .p) (L .inverseB) (L .lengthB) pb (L .orderB);
         tied = marks;
         refusedA = mark-clear (A .refused) _ j (L .refusedA) (ap not k);
         refusedB = mark-clear (B .refused) _ j (L .refusedB) (ap not (sym (same-stored h) ∙ k));
@@ -265,14 +246,6 @@ module _ (n : ℕ) (delta beta : Float) where
   abbrev ties : ℕ → Run → Bool
   ties j r = largest true (diagonalFrom n (r .c) j) .tied
 
-  stays : (j k : ℕ) (r : Run) → r .refused ≡ Step k → step n delta beta j r ≡ r
-  unfolding step
-  stays j k r e = rw e
-
-  goes : (j : ℕ) (r : Run) → r .refused ≡ Never → step n delta beta j r ≡ stepAt n delta beta j (pick j r) (ties j r) r
-  unfolding step
-  goes j r e = rw e
-
   keeps-tie : (j k : ℕ) (r : Run) → r .tied ≡ Step k → step n delta beta j r .tied ≡ Step k
   unfolding step
   keeps-tie j k r e = go (is (marked (r .refused)))
@@ -289,7 +262,7 @@ module _ (n : ℕ) (delta beta : Float) where
         numbers i p q = finite-number (at n (A .c) i i) (L .finite-c i p q)
 
         same-ties : ties j A ≡ ties j B
-        same-ties = picks-tied true n j (L .σ) (L .τ) (A .c) (B .c) pj (L .bijection) (L .fixes) (L .moved-c) numbers
+        same-ties = picks-tied true n j (L .positions .σ) (L .positions .τ) (A .c) (B .c) pj (L .positions .bijection) (L .positions .fixes) (L .moved-c) numbers
 
         go : Is (ties j A) → Runs n s (suc j) (stepAt n delta beta j (pick j A) (ties j A) A) (stepAt n delta beta j (pick j B) (ties j B) B)
         go (holds e) = tied-at j
@@ -299,35 +272,25 @@ module _ (n : ℕ) (delta beta : Float) where
             (step-tied j (pick j A) (ties j A) A ∙ mark-clear (A .tied) (ties j A) j untied-so-far e)
             (subst (λ (u : Bool). After n s (suc j) (stepAt n delta beta j (pick j A) (ties j A) A) (stepAt n delta beta j (pick j B) u B)) same-ties
             (step-in-step n delta beta s j A B L (pick j A) (pick j B) (ties j A) pj (pick-below true n j (A .c) pj) (pick-below true n j (B .c) pj)
-            (picks-correspond true n j (L .σ) (L .τ) (A .c) (B .c) pj (L .bijection) (L .fixes) (L .moved-c) numbers e)))
+            (picks-correspond true n j (L .positions .σ) (L .positions .τ) (A .c) (B .c) pj (L .positions .bijection) (L .positions .fixes) (L .moved-c) numbers e)))
 
     runs-step : (A B : Run) → Runs n s j A B → Runs n s (suc j) (step n delta beta j A) (step n delta beta j B)
     runs-step A B (tied-at k p q) = tied-at k (keeps-tie j k A p) (keeps-tie j k B q)
-    runs-step A B (untied p (on L)) = rw (goes j A (L .refusedA), goes j B (L .refusedB)) (step-on A B p L)
-    runs-step A B (untied p (refused k e x y)) = rw (stays j k A x, stays j k B y) (untied p (refused k e x y))
+    runs-step A B (untied p (on L)) = rw (step-goes n delta beta j A (ap marked (L .refusedA)), step-goes n delta beta j B (ap marked (L .refusedB))) (step-on A B p L)
+    runs-step A B (untied p (refused k e x y)) = rw (step-stays n delta beta j A (ap marked x), step-stays n delta beta j B (ap marked y)) (untied p (refused k e x y))
 
 start-runs : (n : ℕ) (s s' : ℕ → ℕ) (A B : List Float) → Loaded n s s' A B → Runs n s 0 (start n A) (start n B)
 start-runs n s s' A B D = begins (start-moved n s s' A B (D .bijection) (D .moved)) (λ i p q. rw (start-at n A i q) (D .good i i q q .number))
   where
     begins : Moved n s (start n A .c) (start n B .c) → ((i : ℕ) → 0 ≤ i → i < n → finite (at n (start n A .c) i i) ≡ true) → Runs n s 0 (start n A) (start n B)
     begins C g = unfold start in untied refl (on (record {
-      σ = s;
-      τ = s';
-      bijection = D .bijection;
-      fixes = λ x h q. absurd (omega arith);
+      positions = loaded-positions n s s' (D .bijection);
       moved-l = D .moved;
       moved-c = C;
       finite-c = g;
       same-d = refl;
       same-e = refl;
       lengthE = length-replicate n plus-zero;
-      lengthA = length-table n (λ i. i);
-      lengthB = length-table n (λ i. i);
-      own = identity-own n s s' (D .bijection);
-      inverseA = λ i. i;
-      inverseB = λ i. i;
-      orderA = identity-permutes n;
-      orderB = identity-permutes n;
       tied = refl;
       refusedA = refl;
       refusedB = refl;
@@ -349,10 +312,6 @@ module _ (n : ℕ) where
       go (holds p) = rw p
       go (fails p) = rw p
 
-  finish-refused : (r : Run) (k : ℕ) → r .refused ≡ Step k → finish n r ≡ r
-  unfolding finish
-  finish-refused r k e = rw e
-
   abbrev factorOf : Run → List Float
   factorOf r = product n (unitLower n (r .l)) (doutOf n (r .d))
 
@@ -366,7 +325,7 @@ module _ (n : ℕ) where
 
   module _ (s : List ℕ) (A B : Run) (L : InStep n (order s) n A B) where
     same-l : A .l ≡ B .l
-    same-l = sym (moved-same n (L .σ) (A .l) (B .l) (L .fixes) (L .moved-l))
+    same-l = sym (moved-same n (L .positions .σ) (A .l) (B .l) (L .positions .fixes) (L .moved-l))
 
     same-factor : factorOf A ≡ factorOf B
     same-factor = ap₂ (λ (l d : List Float). product n (unitLower n l) (doutOf n d)) same-l (L .same-d)
@@ -375,7 +334,7 @@ module _ (n : ℕ) where
     same-ok = ap₂ (λ (l d : List Float). scaledFinite n (doutOf n d) (product n (unitLower n l) (doutOf n d))) same-l (L .same-d)
 
     own : (x : ℕ) → x < n → getD (A .p) x 0 ≡ order s (getD (B .p) x 0)
-    own x q = sym (L .own x q ∙ ap (λ (z : ℕ). getD (A .p) z 0) (L .fixes x q q))
+    own x q = sym (L .positions .own x q ∙ ap (λ (z : ℕ). getD (A .p) z 0) (L .positions .fixes x q q))
 
     complete : Ended n s (endOf (finish n A)) (endOf (finish n B))
     complete = rw (finished A (L .refusedA), finished B (L .refusedB)) (go (is (okEnd A)))
@@ -385,14 +344,14 @@ module _ (n : ℕ) where
             (record { tied = B .tied; phase2 = Never; refused = mark Never (not (okEnd B)) n; l = factorOf B; e = reorder n (B .p) (B .e); p = B .p })
         go (holds p) = both-complete (L .tied) refl (mark-clear Never _ n refl (ap not p)) (mark-clear Never _ n refl (ap not (sym same-ok ∙ p))) same-factor
             (λ i q. ap (λ (e : List Float). getD (reorder n (B .p) e) i nan) (sym (L .same-e))
-            ∙ reorder-along n (order s) (A .p) (B .p) (L .inverseA) (L .inverseB) (A .e) (L .orderA) (L .orderB) (L .lengthE) own i q)
+            ∙ reorder-along n (order s) (A .p) (B .p) (L .positions .permutedA .inverse) (L .positions .permutedB .inverse) (A .e) (L .positions .permutedA .order) (L .positions .permutedB .order) (L .lengthE) own i q)
             own
         go (fails p) = both-refused n (L .tied) refl (mark-set Never _ n refl (ap not p)) (mark-set Never _ n refl (ap not (sym same-ok ∙ p)))
 
   runs-end : (s : List ℕ) (A B : Run) → Runs n (order s) n A B → Ended n s (endOf (finish n A)) (endOf (finish n B))
   runs-end s A B (tied-at k p q) = both-tied k (finish-tied A ∙ p) (finish-tied B ∙ q)
   runs-end s A B (untied p (on L)) = complete s A B L
-  runs-end s A B (untied p (refused k e x y)) = rw (finish-refused A k x, finish-refused B k y) (both-refused k e refl x y)
+  runs-end s A B (untied p (refused k e x y)) = rw (finish-stays n A (ap marked x), finish-stays n B (ap marked y)) (both-refused k e refl x y)
 
 pub gmw81-ended : (n : ℕ) (s : List ℕ) (s' : ℕ → ℕ) (A B : List Float) → Loaded n (order s) s' A B → Ended n s (endOf (run n A)) (endOf (run n B))
 unfolding run

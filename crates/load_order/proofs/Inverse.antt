@@ -1,18 +1,19 @@
 -- A load order has an inverse; and the reloaded matrix is the first with its positions moved.
 use mathlib.Core.Path.{_≡_, refl, sym, ap, ap₂, _∙_}
 use mathlib.Core.List.{List}
-use mathlib.Core.Bool.{true, false, false≢true}
-use Prim.Native.Nat.{ℕ, zero, suc, _+_, _*_, _/_, _%_, _≤_, _<_}
+use mathlib.Core.Bool.{false≢true}
+use Prim.Native.Nat.{ℕ, zero, suc, _+_, _*_, _/_, _%_, _<_}
 use native.Mathlib.Decide.{ℕ-discrete, decLt}
 use native.Mathlib.Omega.{arith}
-use lib.ListN.{length, getD}
+use lib.Arith.{digits-div, digits-mod}
+use lib.ListN.{getD}
 use lib.Dec.{eqb}
 use borrow.Author.Tests.{eq-eqb, eqb-true}
 use lib.Ieee.{Float, nan}
 use Rattle.arithmetic.specs.First.{first as firstOf, first-is}
 use Rattle.matrix.specs.Matrix.{at, cell-lt}
-use Rattle.matrix.specs.Table.{table, length-table, getD-table}
-use Rattle.matrix.proofs.EntryLaws.{Entries, row-of, column-of}
+use Rattle.matrix.specs.Table.{length-table, getD-table}
+use Rattle.matrix.proofs.EntryLaws.{Entries}
 use Rattle.matrix.proofs.SwapLaws.{transpose, transposed, first, second, other, transpose-second, transpose-twice}
 use Rattle.matrix.proofs.Bijection.{Bijection}
 use Rattle.methods.proofs.Moved.{Moved}
@@ -91,5 +92,5 @@ reloaded n s a L h = record {
   entriesB = length-table (n * n) _;
   moved = λ x y px py.
       getD-table (n * n) (λ k. at n a (getD s (k / n) 0) (getD s (k % n) 0)) (x * n + y) nan (cell-lt n x y px py)
-      ∙ ap₂ (λ (i j : ℕ). at n a (getD s i 0) (getD s j 0)) (row-of n x y py) (column-of n x y py);
+      ∙ ap₂ (λ (i j : ℕ). at n a (getD s i 0) (getD s j 0)) (digits-div x py) (digits-mod x py);
 }

@@ -1,5 +1,6 @@
 pub mod Inverse
 pub mod Picks
+pub mod Positions
 pub mod SeRuns
 pub mod Ends
 pub mod SeTheorem

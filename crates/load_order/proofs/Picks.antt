@@ -1,25 +1,22 @@
--- The pivot searches of the two runs: tied alike, and where untied they pick corresponding positions. Permutations that pivots keep, and marks.
-use mathlib.Core.Path.{_≡_, refl, sym, ap, ap₂, _∙_, subst}
+-- The pivot searches of the two runs: tied alike, and where untied they pick corresponding positions. Marks.
+use mathlib.Core.Path.{_≡_, sym, ap, _∙_}
 use mathlib.Core.List.{List}
-use mathlib.Core.Bool.{Bool, true, false, cond}
+use mathlib.Core.Bool.{Bool, true, false}
 use Prim.Native.Nat.{ℕ, _+_, _-_, _≤_, _<_}
 use native.Mathlib.Omega.{arith}
-use lib.ListN.{length, getD}
 use lib.Ieee.{Float, nan, isNan}
 use Rattle.arithmetic.specs.Sign.{abs-number}
 use Rattle.matrix.specs.Matrix.{at}
-use Rattle.matrix.specs.Table.{table, getD-table}
+use Rattle.matrix.specs.Table.{getD-table}
 use Rattle.matrix.specs.Search.{key, largest}
-use Rattle.matrix.proofs.SwapLaws.{transpose, transpose-lt, transpose-twice}
 use Rattle.matrix.proofs.Bijection.{Bijection, Fixes, bijection-from, counted, bijection-counted, Along}
 use Rattle.matrix.proofs.SearchLaws.{candidate, Numbers, tied-along, index-along}
 use Rattle.methods.specs.Marks.{mark}
-use Rattle.methods.specs.Statements.{diagonalFrom, pivotList}
+use Rattle.methods.specs.Statements.{diagonalFrom}
 use Rattle.methods.specs.declared.decomposition.Mark.{Mark}
 use Rattle.methods.specs.declared.decomposition.Mark.the-variants.{Never, Step}
-use Rattle.methods.proofs.Moved.{Moved, getD-pivot}
+use Rattle.methods.proofs.Moved.{Moved}
 use Rattle.methods.proofs.Pivots.{length-diagonal, pick-below}
-use Rattle.methods.proofs.Reordered.{Order}
 
 -- ---- marks
 pub mark-set : (m : Mark) (b : Bool) (j : ℕ) → m ≡ Never → b ≡ true → mark m b j ≡ Step j
@@ -76,28 +73,3 @@ module _ (magnitude : Bool) (n j : ℕ) (σ τ : ℕ → ℕ) (A B : List Float)
       let k : counted j σ b ≡ largest magnitude (diagonalFrom n A j) .index =
       index-along magnitude (n - j) (counted j σ) (counted j τ) (diagonalFrom n A j) (diagonalFrom n B j) (length-diagonal n j A) (length-diagonal n j B) (omega arith) relative along numbers e in
       omega arith
-
--- ---- a pivot keeps p a permutation
-pub pivot-permutes : (n j k : ℕ) (p : List ℕ) (q : ℕ → ℕ) → length p ≡ n → j + k < n → Order n p q → Order n (pivotList 0 j k p) (λ r. transpose j (j + k) (q r))
-pivot-permutes n j k p q h pk O = record {
-  to-low = λ i u w. omega arith;
-  to-high = λ i u w. rw (getD-pivot 0 j k p i (omega arith)) (O .to-high (transpose j (j + k) i) (omega arith) (transpose-lt n j (j + k) i (omega arith) pk w));
-  from-low = λ i u w. omega arith;
-  from-high = λ i u w. transpose-lt n j (j + k) (q i) (omega arith) pk (O .from-high i u w);
-  to-from = λ i u w. getD-pivot 0 j k p (transpose j (j + k) (q i)) (omega arith) ∙ ap (λ (x : ℕ). getD p x 0) (transpose-twice j (j + k) (q i)) ∙ O .to-from i u w;
-  from-to = λ i u w.
-      ap (λ (x : ℕ). transpose j (j + k) (q x)) (getD-pivot 0 j k p i (omega arith))
-      ∙ ap (transpose j (j + k)) (O .from-to (transpose j (j + k) i) (omega arith) (transpose-lt n j (j + k) i (omega arith) pk w))
-      ∙ transpose-twice j (j + k) i;
-}
-
--- 0 to n - 1 in order
-pub identity-permutes : (n : ℕ) → Order n (table n (λ i. i)) (λ i. i)
-identity-permutes n = record {
-  to-low = λ i u w. omega arith;
-  to-high = λ i u w. rw (getD-table n (λ k. k) i 0 w) w;
-  from-low = λ i u w. omega arith;
-  from-high = λ i u w. w;
-  to-from = λ i u w. getD-table n (λ k. k) i 0 w;
-  from-to = λ i u w. getD-table n (λ k. k) i 0 w;
-}

@@ -1,25 +1,25 @@
 -- Two runs of SE90, or of SE99, in step: phase one keeps them alike until a step is tied, the phase is left, or the run is refused.
-use mathlib.Core.Path.{_≡_, refl, sym, ap, ap₂, _∙_, subst}
+use mathlib.Core.Path.{_≡_, refl, sym, ap, _∙_, subst}
 use mathlib.Core.List.{List}
-use mathlib.Core.Bool.{Bool, true, false, not, _||_, cond}
-use Prim.Native.Nat.{ℕ, suc, _+_, _-_, _*_, _≤_, _<_}
+use mathlib.Core.Bool.{Bool, true, false, not, _||_}
+use Prim.Native.Nat.{ℕ, suc, _+_, _≤_, _<_}
 use native.Mathlib.Decide.{decLt}
 use native.Mathlib.Omega.{arith}
-use lib.ListN.{length, getD, length-replicate}
+use lib.ListN.{length, length-replicate}
 use lib.Dec.{T, ltb, eqb}
 use lib.Ieee.{Float, binary64, fits, isNan}
 use lib.Ieee.Fits.{cond-fits, sub-fits, div-fits}
 use lib.Ieee.Scale.{finite}
-use Rattle.arithmetic.specs.Double.{_⊖_, _⊗_, _⊘_, plus-zero}
-use Rattle.arithmetic.specs.Loop.{range, range-ind, range2-ind}
+use Rattle.arithmetic.specs.Double.{_⊗_, _⊘_, plus-zero}
+use Rattle.arithmetic.specs.Loop.{range2-ind}
+use Rattle.arithmetic.specs.Order.{finite-number}
 use Rattle.arithmetic.specs.Sqrt.{sqrt}
 use Rattle.arithmetic.proofs.Nearest.{sqrt-fits}
 use Rattle.matrix.specs.Matrix.{at}
-use Rattle.matrix.specs.Table.{table, length-table, getD-table}
 use Rattle.matrix.specs.Search.{largest}
 use Rattle.matrix.proofs.EntryLaws.{Entries}
 use Rattle.matrix.proofs.SwapLaws.{transpose, transpose-lt}
-use Rattle.matrix.proofs.Bijection.{Is, is, holds, fails, Bijection, Fixes, bijection-from, bijection-turned, turned, turned-fixes}
+use Rattle.matrix.proofs.Bijection.{Is, is, holds, fails, Bijection, Fixes, bijection-from}
 use Rattle.methods.specs.Marks.{mark, marked}
 use Rattle.methods.specs.Statements.{diagonalMax, diagonalFrom, pivotMatrix, pivotList, eliminate, blockFinite}
 use Rattle.methods.specs.declared.schnabel_eskow.Tolerances.{Tolerances}
@@ -27,14 +27,14 @@ use Rattle.methods.specs.declared.schnabel_eskow.Variant.{Variant}
 use Rattle.methods.specs.Se.{Run, start, tmpOf, leavesBefore, leavesAfter, leave, pivot, factorize, stepAt, phaseOneStep, inPhaseOne, phaseOne}
 use Rattle.methods.specs.declared.decomposition.Mark.{Mark}
 use Rattle.methods.specs.declared.decomposition.Mark.the-variants.{Never, Step}
-use Rattle.methods.proofs.Tests.{Double, finite-number}
+use Rattle.methods.proofs.Tests.{Double}
 use Rattle.methods.proofs.Magnitudes.{diagonalMax-along}
-use Rattle.methods.proofs.Moved.{Moved, pivot-entries, pivot-at, pivot-symmetric, pivot-moved, length-pivot, pivot-order, block-each, block-moved}
+use Rattle.methods.proofs.Moved.{Moved, pivot-at, pivot-symmetric, pivot-moved, block-each, block-moved}
 use Rattle.methods.proofs.Eliminated.{eliminated, low-row, low-column, eliminate-at, eliminate-symmetric, eliminate-moved}
 use Rattle.methods.proofs.PhaseOne.{leavesBefore-along, leavesAfter-along}
-use Rattle.methods.proofs.Reordered.{Order}
 use Rattle.methods.proofs.Pivots.{pick-below}
-use Rattle.load_order.proofs.Picks.{mark-set, mark-clear, mark-keeps, picks-tied, picks-correspond, pivot-permutes, identity-permutes}
+use Rattle.load_order.proofs.Picks.{mark-set, mark-clear, mark-keeps, picks-tied, picks-correspond}
+use Rattle.load_order.proofs.Positions.{Positions, loaded-positions, pivot-positions}
 
 -- a finite double
 pub record Good (x : Float) : Type 0 where
@@ -44,22 +44,12 @@ pub record Good (x : Float) : Type 0 where
 abbrev AllGood : ℕ → List Float → Type 0
 AllGood n m = (x y : ℕ) → x < n → y < n → Good (at n m x y)
 
--- position x of the second run holds the contract of position σ x of the first; s is the load order
+-- A and B before step j; s is the load order
 pub record InStep (n : ℕ) (s : ℕ → ℕ) (j : ℕ) (A B : Run) : Type 0 where
-  pub σ : ℕ → ℕ
-  pub τ : ℕ → ℕ
-  pub bijection : Bijection 0 n σ τ
-  pub fixes : Fixes n j σ
-  pub moved : Moved n σ (A .l) (B .l)
+  pub positions : Positions n s j (A .p) (B .p)
+  pub moved : Moved n (positions .σ) (A .l) (B .l)
   pub symmetric : (x y : ℕ) → x < n → y < n → at n (A .l) x y ≡ at n (A .l) y x
   pub good : AllGood n (A .l)
-  pub lengthA : length (A .p) ≡ n
-  pub lengthB : length (B .p) ≡ n
-  pub own : (x : ℕ) → x < n → s (getD (B .p) x 0) ≡ getD (A .p) (σ x) 0
-  pub inverseA : ℕ → ℕ
-  pub inverseB : ℕ → ℕ
-  pub orderA : Order n (A .p) inverseA
-  pub orderB : Order n (B .p) inverseB
   pub amounts : A .e ≡ B .e
   pub lengthE : length (A .e) ≡ n
   pub tied : A .tied ≡ B .tied
@@ -106,12 +96,15 @@ eliminate-good n j m pj h s g e x y px py = record {
 
 -- ---- one step, the picks corresponding
 module _ (v : Variant) (t : Tolerances) (gamma : Float) (n : ℕ) (s : ℕ → ℕ) (j : ℕ) (A B : Run) (L : InStep n s j A B)
-    (a b : ℕ) (tie : Bool) (pj : j < n) (pa : j + a < n) (pb : j + b < n) (corresponds : L .σ (j + b) ≡ j + a) where
+    (a b : ℕ) (tie : Bool) (pj : j < n) (pa : j + a < n) (pb : j + b < n) (corresponds : L .positions .σ (j + b) ≡ j + a) where
+  abbrev next : Positions n s (suc j) (pivotList 0 j a (A .p)) (pivotList 0 j b (B .p))
+  next = pivot-positions n s j (A .p) (B .p) (L .positions) a b pj pa pb corresponds
+
   abbrev σ₁ : ℕ → ℕ
-  σ₁ = turned j (j + a) (j + b) (L .σ)
+  σ₁ = next .σ
 
   abbrev τ₁ : ℕ → ℕ
-  τ₁ = turned j (j + b) (j + a) (L .τ)
+  τ₁ = next .τ
 
   abbrev lA : List Float
   lA = pivotMatrix n j a (A .l)
@@ -120,13 +113,13 @@ module _ (v : Variant) (t : Tolerances) (gamma : Float) (n : ℕ) (s : ℕ → �
   lB = pivotMatrix n j b (B .l)
 
   P₁ : Bijection 0 n σ₁ τ₁
-  P₁ = bijection-turned n j (j + a) (j + b) (L .σ) (L .τ) (L .bijection) pj pa pb
+  P₁ = next .bijection
 
   f₁ : Fixes n (j + 1) σ₁
-  f₁ = turned-fixes n j (j + a) (j + b) (L .σ) (L .fixes) (omega arith) (omega arith) corresponds
+  f₁ x h q = next .fixes x (omega arith) q
 
   M₁ : Moved n σ₁ lA lB
-  M₁ = pivot-moved n j a b (L .σ) (L .τ) (A .l) (B .l) pj pa pb (L .bijection) (L .moved)
+  M₁ = pivot-moved n j a b (L .positions .σ) (L .positions .τ) (A .l) (B .l) pj pa pb (L .positions .bijection) (L .moved)
 
   s₁ : (x y : ℕ) → x < n → y < n → at n lA x y ≡ at n lA y x
   s₁ = pivot-symmetric n j a (A .l) (L .moved .entriesA) pj pa (L .symmetric)
@@ -155,20 +148,10 @@ module _ (v : Variant) (t : Tolerances) (gamma : Float) (n : ℕ) (s : ℕ → �
       go (fails p) (fails f) = rw (p, sym leaves ∙ p) (refused j marks (L .phase2A) (L .phase2B)
           (mark-set (A .refused) _ j (L .refusedA) (ap not f)) (mark-set (B .refused) _ j (L .refusedB) (ap not (sym blocks ∙ f))))
       go (fails p) (holds f) = rw (p, sym leaves ∙ p) (on (record {
-        σ = σ₁;
-        τ = τ₁;
-        bijection = P₁;
-        fixes = λ x h q. f₁ x (omega arith) q;
+        positions = next;
         moved = M₂;
         symmetric = eliminate-symmetric n j lA pj (M₁ .entriesA) s₁;
         good = eliminate-good n j lA pj (M₁ .entriesA) s₁ g₁ f;
-        lengthA = length-pivot 0 j a (A .p) ∙ L .lengthA;
-        lengthB = length-pivot 0 j b (B .p) ∙ L .lengthB;
-        own = pivot-order n j a b s (L .σ) (A .p) (B .p) pa pb (L .lengthA) (L .lengthB) (L .own);
-        inverseA = λ r. transpose j (j + a) (L .inverseA r);
-        inverseB = λ r. transpose j (j + b) (L .inverseB r);
-        orderA = pivot-permutes n j a (A .p) (L .inverseA) (L .lengthA) pa (L .orderA);
-        orderB = pivot-permutes n j b (B .p) (L .inverseB) (L .lengthB) pb (L .orderB);
         amounts = L .amounts;
         lengthE = L .lengthE;
         tied = marks;
@@ -239,13 +222,13 @@ module _ (v : Variant) (t : Tolerances) (gamma : Float) (n : ℕ) where
     step-on A B untied-so-far L = go (is (leavesBefore v t gamma n j (A .l))) (is (ties j A))
       where
         before : leavesBefore v t gamma n j (A .l) ≡ leavesBefore v t gamma n j (B .l)
-        before = leavesBefore-along v t gamma n j (L .σ) (L .τ) (A .l) (B .l) pj (L .bijection) (L .fixes) (L .moved) (λ x p. L .good x x p p .number) (λ x p. L .good x x p p .double)
+        before = leavesBefore-along v t gamma n j (L .positions .σ) (L .positions .τ) (A .l) (B .l) pj (L .positions .bijection) (L .positions .fixes) (L .moved) (λ x p. L .good x x p p .number) (λ x p. L .good x x p p .double)
 
         numbers : (i : ℕ) → j ≤ i → i < n → isNan (at n (A .l) i i) ≡ false
         numbers i p q = finite-number (at n (A .l) i i) (L .good i i q q .number)
 
         same-ties : ties j A ≡ ties j B
-        same-ties = picks-tied false n j (L .σ) (L .τ) (A .l) (B .l) pj (L .bijection) (L .fixes) (L .moved) numbers
+        same-ties = picks-tied false n j (L .positions .σ) (L .positions .τ) (A .l) (B .l) pj (L .positions .bijection) (L .positions .fixes) (L .moved) numbers
 
         searched : leavesBefore v t gamma n j (A .l) ≡ false → Is (ties j A) → Runs n s (suc j) (stepAt v t gamma n j (pick j A) (ties j A) A) (stepAt v t gamma n j (pick j B) (ties j B) B)
         searched p (holds e) = tied-at j
@@ -255,7 +238,7 @@ module _ (v : Variant) (t : Tolerances) (gamma : Float) (n : ℕ) where
             (step-tied j (pick j A) (ties j A) A ∙ mark-clear (A .tied) (ties j A) j untied-so-far e)
             (subst (λ (u : Bool). After n s (suc j) (stepAt v t gamma n j (pick j A) (ties j A) A) (stepAt v t gamma n j (pick j B) u B)) same-ties
             (step-in-step v t gamma n s j A B L (pick j A) (pick j B) (ties j A) pj (pick-below false n j (A .l) pj) (pick-below false n j (B .l) pj)
-            (picks-correspond false n j (L .σ) (L .τ) (A .l) (B .l) pj (L .bijection) (L .fixes) (L .moved) numbers e)))
+            (picks-correspond false n j (L .positions .σ) (L .positions .τ) (A .l) (B .l) pj (L .positions .bijection) (L .positions .fixes) (L .moved) numbers e)))
 
         go : Is (leavesBefore v t gamma n j (A .l)) → Is (ties j A) → Runs n s (suc j) (phaseOneStep v t gamma n j A) (phaseOneStep v t gamma n j B)
         go (holds p) q = rw (leaves-first j A p, leaves-first j B (sym before ∙ p))
@@ -281,29 +264,16 @@ all-double {n} {s} {s'} {A} {B} D x y px py = record { number = finite-number (a
 pub gamma-same : {n : ℕ} {s s' : ℕ → ℕ} {A B : List Float} → Loaded n s s' A B → diagonalMax n A ≡ diagonalMax n B
 gamma-same {n} {s} {s'} {A} {B} D = diagonalMax-along n s s' A B (D .bijection) (D .moved .moved) (all-double D)
 
-pub identity-own : (n : ℕ) (s s' : ℕ → ℕ) → Bijection 0 n s s' → (x : ℕ) → x < n → s (getD (table n (λ i. i)) x 0) ≡ getD (table n (λ i. i)) (s x) 0
-identity-own n s s' P x px = ap s (getD-table n (λ i. i) x 0 px) ∙ sym (getD-table n (λ i. i) (s x) 0 (P .to-high x (omega arith) px))
-
 pub phase-one-runs : (v : Variant) (t : Tolerances) (gamma : Float) (n : ℕ) (s s' : ℕ → ℕ) (A B : List Float) → Loaded n s s' A B
     → Runs n s n (phaseOne v t gamma n (start n A)) (phaseOne v t gamma n (start n B))
 unfolding phaseOne start
 phase-one-runs v t gamma n s s' A B D =
     range2-ind (Runs n s) 0 n (inPhaseOne v t gamma n) (inPhaseOne v t gamma n) (start n A) (start n B) (omega arith)
     (untied refl (on (record {
-      σ = s;
-      τ = s';
-      bijection = D .bijection;
-      fixes = λ x h q. absurd (omega arith);
+      positions = loaded-positions n s s' (D .bijection);
       moved = D .moved;
       symmetric = D .symmetric;
       good = D .good;
-      lengthA = length-table n (λ i. i);
-      lengthB = length-table n (λ i. i);
-      own = identity-own n s s' (D .bijection);
-      inverseA = λ i. i;
-      inverseB = λ i. i;
-      orderA = identity-permutes n;
-      orderB = identity-permutes n;
       amounts = refl;
       lengthE = length-replicate n plus-zero;
       tied = refl;

@@ -1,16 +1,13 @@
 -- The theorem on load order.
-use mathlib.Core.Path.{_≡_}
 use mathlib.Core.List.{List}
 use Prim.Native.Nat.{ℕ}
 use lib.Ieee.{Float}
 use Rattle.methods.specs.Gmw81.{mod-cholesky-gmw81}
 use Rattle.methods.specs.Gmw81 as gmw
-use Rattle.methods.specs.declared.schnabel_eskow.Tolerances.{Tolerances}
-use Rattle.methods.specs.declared.schnabel_eskow.Variant.{Variant}
 use Rattle.methods.specs.Se.{mod-cholesky-se}
 use Rattle.methods.specs.Se as ses
-use Rattle.methods.specs.Factor.{Method, gmw81, se, factor}
-use Rattle.load_order.specs.LoadOrder.{LoadOrder, reload, Accepted, Alike, LoadOrderTheorem}
+use Rattle.methods.specs.Factor.{gmw81, se, factor}
+use Rattle.load_order.specs.LoadOrder.{LoadOrder, reload, Accepted, LoadOrderTheorem}
 use Rattle.load_order.proofs.Inverse.{order, position, order-bijection, reloaded}
 use Rattle.load_order.proofs.Ends.{ended-alike}
 use Rattle.load_order.proofs.SeRuns.{Loaded}

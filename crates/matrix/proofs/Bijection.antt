@@ -1,5 +1,5 @@
 -- Bijections of the positions a to b - 1, and tests and folds along them.
-use mathlib.Core.Path.{_≡_, refl, sym, ap, _∙_, subst}
+use mathlib.Core.Path.{_≡_, refl, sym, ap, _∙_}
 use mathlib.Core.Bool.{Bool, true, false}
 use Prim.Native.Nat.{ℕ, _+_, _-_, _≤_, _<_}
 use native.Mathlib.Decide.{decLt, ℕ-discrete}
@@ -62,6 +62,9 @@ stays-above n j σ τ B f x a b = elim (decLt (σ x) j) [
       omega arith
   | no q ↦ omega arith
 ]
+
+pub stays-after : (n j : ℕ) (σ τ : ℕ → ℕ) → Bijection 0 n σ τ → Fixes n (j + 1) σ → (x : ℕ) → j < x → x < n → j < σ x
+stays-after n j σ τ B f x a b = omega (arith, stays-above n (j + 1) σ τ B f x (omega arith) b)
 
 pub bijection-from : (n j : ℕ) (σ τ : ℕ → ℕ) → Bijection 0 n σ τ → Fixes n j σ → Bijection j n σ τ
 bijection-from n j σ τ B f = record {

@@ -1,5 +1,5 @@
 -- What the operands of an accepted call are, and what the call then answers.
-use mathlib.Core.Path.{_≡_, refl, sym, ap, _∙_}
+use mathlib.Core.Path.{_≡_, refl}
 use mathlib.Core.List.{List}
 use mathlib.Core.Bool.{Bool, true, false}
 use Prim.Native.Nat.{ℕ, _*_, _<_}
@@ -15,7 +15,7 @@ use Rattle.matrix.specs.Matrix.{Square}
 use Rattle.matrix.specs.Plain.{AllBelow}
 use Rattle.matrix.specs.Checks.{check-size, check-some, check-matrix, check-buffer, check-index, check-indices, check-finite}
 use Rattle.matrix.specs.Calls.{matrixCall, swap-checks, search-checks, permutation-checks, diagonal-checks}
-use Rattle.matrix.proofs.CheckLaws.{Accepted, complete-accepted, both-accepted, size-accepted, matrix-accepted, buffer-accepted, index-accepted, indices-accepted}
+use Rattle.matrix.proofs.CheckLaws.{Accepted, complete-accepted, not-complete, both-accepted, size-accepted, matrix-accepted, buffer-accepted, index-accepted, indices-accepted}
 
 -- ---- what the operands are
 pub swap-accepted : (n : ℕ) (mat : List Float) (idx1 idx2 : ℕ) → Accepted (swap-checks n (length mat) idx1 idx2) → Square n mat × ((idx1 < n) × (idx2 < n))
@@ -52,12 +52,9 @@ diagonal-accepted arr mat h = square-accepted (length arr) mat (check-finite 1 a
 
 -- ---- what the call answers: its checks o are run, and their outcome r asked whether it is complete
 module _ {o r : Outcome} {b : Bool} (runs : r ≡ o) (asks : b ≡ complete r) where
-  pub not-complete : b ≡ false → complete o ≡ false
-  not-complete h = sym (asks ∙ ap complete runs) ∙ h
-
   -- a call that is lent one matrix has written it, or has left it as it was
   pub matrix-written : (new old mat : List Float) → b ≡ true → mat ≡ new → record { outcome = r; mat = mat } ≡ matrixCall o new old
   matrix-written new old mat h e = rw (complete-accepted runs asks h .is, runs, e)
 
   pub matrix-untouched : (new old : List Float) → b ≡ false → record { outcome = r; mat = old } ≡ matrixCall o new old
-  matrix-untouched new old h = rw (not-complete h, runs)
+  matrix-untouched new old h = rw (not-complete runs asks h, runs)

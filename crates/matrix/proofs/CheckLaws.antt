@@ -1,22 +1,27 @@
 -- Laws of checks: searches for the first bad position, chains of checks, and what an accepted check says.
 use mathlib.Core.Path.{_≡_, refl, sym, ap, _∙_}
 use mathlib.Core.List.{List}
-use mathlib.Core.Bool.{Bool, true, false, not, _||_, true≢false}
-use Prim.Native.Nat.{ℕ, suc, _+_, _-_, _*_, _≤_, _<_}
+use mathlib.Core.Bool.{Bool, true, false, not, _||_, _&&_, cond, true≢false}
+use Prim.Native.Nat.{ℕ, suc, _+_, _-_, _*_, _/_, _%_, _≤_, _<_}
 use native.Mathlib.Nat.{sub-zero}
-use native.Mathlib.Decide.{decLt}
 use native.Mathlib.Numerals.{add-one}
+use native.Mathlib.Decide.{ℕ-discrete, decLt}
 use native.Mathlib.Omega.{arith}
+use lib.Arith.{digits-div, digits-mod}
 use lib.ListN.{length, getD}
-use lib.Dec.{eqb, leb, ltb}
-use lib.Ieee.{Float}
-use borrow.Author.Tests.{not-true, not-false, eqb-true, eqb-false, ltb-false, leb-false, le-leb, lt-leb}
+use lib.Dec.{T, eqb, leb, ltb}
+use lib.Ieee.{Float, nan, binary64, toBits, ofBits, fits}
+use lib.Ieee.Bits.{ofBits-toBits}
+use lib.Ieee.Scale.{finite}
+use borrow.Author.Tests.{not-true, not-false, eqb-true, eqb-false, eq-eqb, ne-eqb, ltb-false, lt-ltb, le-ltb, leb-false, le-leb, lt-leb}
 use Rattle.arithmetic.specs.First.{first, firstFrom, first-is}
-use Rattle.arithmetic.specs.Outcome.{complete, _then_, then-complete, refuse-complete}
+use Rattle.arithmetic.specs.Order.{or-1, or-2}
+use Rattle.arithmetic.specs.Outcome.{complete, refuse, _then_, then-complete, refuse-complete}
 use Rattle.arithmetic.specs.declared.outcome.Outcome.{Outcome}
-use Rattle.arithmetic.specs.declared.outcome.Outcome.the-variants.{SizeOutOfRange, MatrixLength, BufferLength, IndexOutOfRange}
-use Rattle.matrix.specs.Matrix.{at}
-use Rattle.matrix.specs.Checks.{check-size, check-matrix, check-buffer, check-index, check-indices, outOfRange, sameBits}
+use Rattle.arithmetic.specs.declared.outcome.Outcome.the-variants.{Complete, SizeOutOfRange, MatrixLength, BufferLength, IndexOutOfRange, NotFinite, Unsymmetric}
+use Rattle.matrix.specs.Matrix.{Square, at, cell-lt}
+use Rattle.matrix.specs.Checks.{check-size, check-matrix, check-buffer, check-index, check-indices, check-finite, check-symmetric, outOfRange, notFinite, firstNotFinite, sameBits, unsymmetric, firstUnsymmetric, AllFinite}
+use Rattle.matrix.specs.Plain.{AllBelow}
 
 -- ---- a loop that searches up to n, at i: what it still has to find
 pub search-start : (bad : ℕ → Bool) (n : ℕ) → firstFrom bad 0 n ≡ firstFrom bad 0 (n - 0)
@@ -60,11 +65,14 @@ module _ {o r : Outcome} {b : Bool} (runs : r ≡ o) (asks : b ≡ complete r) w
   pub complete-accepted : b ≡ true → Accepted o
   complete-accepted h = record { is = sym (asks ∙ ap complete runs) ∙ h }
 
+  pub not-complete : b ≡ false → complete o ≡ false
+  not-complete h = sym (asks ∙ ap complete runs) ∙ h
+
   pub accepted : not b ≡ false → Accepted o
   accepted h = complete-accepted (not-false b h)
 
   pub not-accepted : not b ≡ true → complete o ≡ false
-  not-accepted h = sym (asks ∙ ap complete runs) ∙ not-true b h
+  not-accepted h = not-complete (not-true b h)
 
   pub refused : (rest : Outcome) → not b ≡ true → r ≡ (o then rest)
   refused rest h = rw (not-accepted h, runs)
@@ -77,15 +85,23 @@ goes-on A e = rw (A .is, e)
 pub both-accepted : (o rest : Outcome) → Accepted (o then rest) → Accepted o × Accepted rest
 both-accepted o rest h = let t = then-complete o rest (h .is) in (record { is = t .0 }, record { is = t .1 })
 
--- ---- what an accepted check says
-or-false : (a b : Bool) → a || b ≡ false → (a ≡ false) × (b ≡ false)
-or-false true b e = absurd (true≢false e)
-or-false false b e = (refl, e)
+-- what holds of each check holds of the chain
+pub then-keeps : (P : Outcome → Type 0) (o rest : Outcome) → P o → (Accepted o → P rest) → P (o then rest)
+then-keeps P o rest p q = go (complete o) refl
+  where
+    go : (b : Bool) → complete o ≡ b → P (cond b rest o)
+    go true e = q (record { is = e })
+    go false e = p
 
+pub refuse-keeps : (P : Outcome → Type 0) (bad : Bool) (refusal : Outcome) → P Complete → (bad ≡ true → P refusal) → P (refuse bad refusal)
+refuse-keeps P true refusal p q = q refl
+refuse-keeps P false refusal p q = p
+
+-- ---- what an accepted check says
 pub size-accepted : (n : ℕ) → Accepted (check-size n) → (0 < n) × (n ≤ 48)
 size-accepted n h =
-    let t = or-false (eqb n 0) (ltb 48 n) (refuse-complete (eqb n 0 || ltb 48 n) SizeOutOfRange refl (h .is)) in
-    (omega (arith, eqb-false n 0 (t .0)), ltb-false 48 n (t .1))
+    let t : (eqb n 0 || ltb 48 n) ≡ false = refuse-complete (eqb n 0 || ltb 48 n) SizeOutOfRange refl (h .is) in
+    (omega (arith, eqb-false n 0 (or-1 (eqb n 0) (ltb 48 n) t)), ltb-false 48 n (or-2 (eqb n 0) (ltb 48 n) t))
 
 pub matrix-accepted : (n len : ℕ) → Accepted (check-matrix n len) → len ≡ n * n
 matrix-accepted n len h = eqb-true len (n * n) (not-false (eqb len (n * n)) (refuse-complete (not (eqb len (n * n))) MatrixLength refl (h .is)))
@@ -96,12 +112,55 @@ buffer-accepted wanted len h = eqb-true len wanted (not-false (eqb len wanted) (
 pub index-accepted : (n position index : ℕ) → Accepted (check-index n position index) → index < n
 index-accepted n position index h = leb-false n index (refuse-complete (leb n index) (IndexOutOfRange position) refl (h .is))
 
-pub indices-accepted : (n : ℕ) (idxs : List ℕ) → Accepted (check-indices n idxs) → (k : ℕ) → k < length idxs → getD idxs k 0 < n
+pub indices-accepted : (n : ℕ) (idxs : List ℕ) → Accepted (check-indices n idxs) → AllBelow n idxs
 indices-accepted n idxs h k l =
     let f = first (outOfRange n idxs) (length idxs) in
     let q : length idxs ≤ f = ltb-false f (length idxs) (refuse-complete (ltb f (length idxs)) (IndexOutOfRange f) refl (h .is)) in
     leb-false n (getD idxs k 0) (first-is (outOfRange n idxs) (length idxs) .good k (omega arith) (omega arith))
 
+pub finite-accepted : (n : ℕ) (m : List Float) → Accepted (check-finite n m) → (k : ℕ) → k < length m → finite (getD m k nan) ≡ true
+finite-accepted n m h k l =
+    let f = firstNotFinite m in
+    let q : length m ≤ f = ltb-false f (length m) (refuse-complete (ltb f (length m)) (NotFinite (f / n) (f % n)) refl (h .is)) in
+    not-false (finite (getD m k nan)) (first-is (notFinite m) (length m) .good k (omega arith) (omega arith))
+
+pub entries-accepted : (n : ℕ) (m : List Float) → Square n m → Accepted (check-finite n m) → AllFinite n m
+entries-accepted n m s h i j p q = finite-accepted n m h (i * n + j) (omega (arith, s .len, cell-lt n i j p q))
+
 -- ---- row i has other bits at column j than row j at column i
 abbrev pub mismatch : ℕ → List Float → ℕ → ℕ → Bool
 mismatch n m i j = not (sameBits (at n m i j) (at n m j i))
+
+pub unsymmetric-at : (n : ℕ) (m : List Float) (i j : ℕ) → j < n → unsymmetric n m (i * n + j) ≡ (ltb i j && mismatch n m i j)
+unsymmetric-at n m i j h = rw (digits-div i h, digits-mod i h)
+
+-- doubles of the same bits are the same
+same-bits : (x y : Float) → T (fits binary64 x) → T (fits binary64 y) → sameBits x y ≡ true → x ≡ y
+same-bits x y p q h = sym (ofBits-toBits binary64 x p) ∙ ap (ofBits binary64) (eqb-true (toBits binary64 x) (toBits binary64 y) h) ∙ ofBits-toBits binary64 y q
+
+module _ (n : ℕ) (m : List Float) (doubles : (i j : ℕ) → i < n → j < n → T (fits binary64 (at n m i j))) (h : Accepted (check-symmetric n m)) where
+  above : (i j : ℕ) → i < j → j < n → at n m i j ≡ at n m j i
+  above i j l q =
+      let f = firstUnsymmetric n m in
+      let k = i * n + j in
+      let p : i < n = omega arith in
+      let c : k < n * n = cell-lt n i j p q in
+      let w : n * n ≤ f = ltb-false f (n * n) (refuse-complete (ltb f (n * n)) (Unsymmetric (f / n) (f % n)) refl (h .is)) in
+      let g : ltb i j && mismatch n m i j ≡ false = sym (unsymmetric-at n m i j q) ∙ first-is (unsymmetric n m) (n * n) .good k (omega arith) (omega arith) in
+      same-bits (at n m i j) (at n m j i) (doubles i j p q) (doubles j i q p) (not-false (sameBits (at n m i j) (at n m j i)) (rw (lt-ltb i j l) at g))
+
+  pub symmetric-accepted : (i j : ℕ) → i < n → j < n → at n m i j ≡ at n m j i
+  symmetric-accepted i j p q = elim (decLt i j) [
+    | yes l ↦ above i j l q
+    | no l ↦ elim (ℕ-discrete i j) [ yes e ↦ rw e | no d ↦ sym (above j i (omega arith) p) ]
+  ]
+
+-- ---- what is accepted
+pub size-passes : (n : ℕ) → 0 < n → n ≤ 48 → Accepted (check-size n)
+size-passes n some small = record { is = rw (ne-eqb n 0 (λ e. omega arith), le-ltb 48 n small) }
+
+pub matrix-passes : (n len : ℕ) → len ≡ n * n → Accepted (check-matrix n len)
+matrix-passes n len e = record { is = rw (eq-eqb len (n * n) e) }
+
+pub buffer-passes : (wanted len : ℕ) → len ≡ wanted → Accepted (check-buffer wanted len)
+buffer-passes wanted len e = record { is = rw (eq-eqb len wanted e) }

@@ -1,11 +1,11 @@
 -- What stands at (i, j) after a store, and that a matrix is its entries.
-use mathlib.Core.Path.{_≡_, refl, sym, ap, _∙_, subst}
+use mathlib.Core.Path.{_≡_, sym, ap, _∙_, subst}
 use mathlib.Core.List.{List}
-use Prim.Native.Nat.{ℕ, _+_, _*_, _/_, _%_, _≤_, _<_}
-use native.Mathlib.Nat.{mul-le-mul-right, div-add-mod', div-lt-iff-lt-mul, mod-lt, mul-add-div-right, div-eq-of-lt, mul-add-mod-self-right, mod-eq-of-lt}
+use Prim.Native.Nat.{ℕ, _+_, _*_, _/_, _%_, _<_}
+use native.Mathlib.Nat.{mul-le-mul-right, div-add-mod', div-lt-iff-lt-mul, mod-lt}
 use native.Mathlib.Decide.{ℕ-discrete, decLt}
 use native.Mathlib.Omega.{arith}
-use lib.ListN.{length, getD, set, length-set}
+use lib.ListN.{length, getD, length-set}
 use lib.Seq.{getD-set-same, getD-set-other, ext-getD}
 use lib.Ieee.{Float, nan}
 use Rattle.matrix.specs.Matrix.{at, put, cell-lt}
@@ -23,12 +23,6 @@ cell-row n i j k l a b e = elim (decLt i k) [
 
 pub cell-column : (n i j k l : ℕ) → j < n → l < n → i * n + j ≡ k * n + l → j ≡ l
 cell-column n i j k l a b e = let r : i ≡ k = cell-row n i j k l a b e in omega (arith, ap (λ (x : ℕ). x * n) r)
-
-pub row-of : (n i j : ℕ) → j < n → (i * n + j) / n ≡ i
-row-of n i j h = mul-add-div-right {m = n} (omega arith) i j ∙ omega (arith, div-eq-of-lt h)
-
-pub column-of : (n i j : ℕ) → j < n → (i * n + j) % n ≡ j
-column-of n i j h = mul-add-mod-self-right i n j ∙ mod-eq-of-lt h
 
 -- ---- after a store
 pub put-entries : (n : ℕ) (m : List Float) (i j : ℕ) (v : Float) → Entries n m → Entries n (put n m i j v)

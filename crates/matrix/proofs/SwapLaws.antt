@@ -10,7 +10,7 @@ use lib.Seq.{getD-set-same, getD-set-other}
 use lib.Dec.{eqb}
 use borrow.Author.Tests.{eq-eqb, ne-eqb}
 use lib.Ieee.{Float, nan}
-use Rattle.arithmetic.specs.Loop.{range, range-ind}
+use Rattle.arithmetic.specs.Loop.{range-ind}
 use Rattle.matrix.specs.Matrix.{at, cell-lt}
 use Rattle.matrix.specs.Swap.{swap, swapInRows, swapInColumns, swap-rows, swap-columns}
 use Rattle.matrix.proofs.EntryLaws.{Entries, cell-row, cell-column, same-entries}
@@ -175,11 +175,6 @@ module _ (n : ℕ) (m : List Float) (a b : ℕ) (h : Entries n m) (pa : a < n) (
   swap-both-at r c pr pc =
       swap-columns-at n (swap-rows n m a b) a b (swap-rows-entries n m a b h pa pb) pa pb r c pr pc
       ∙ swap-rows-at n m a b h pa pb r (transpose a b c) pr (transpose-lt n a b c pa pb pc)
-
-  -- a symmetric matrix stays so
-  pub swap-both-symmetric : ((i j : ℕ) → i < n → j < n → at n m i j ≡ at n m j i) → (i j : ℕ) → i < n → j < n → at n (swap-both n m a b) i j ≡ at n (swap-both n m a b) j i
-  swap-both-symmetric s i j pi pj =
-      swap-both-at i j pi pj ∙ s (transpose a b i) (transpose a b j) (transpose-lt n a b i pa pb pi) (transpose-lt n a b j pa pb pj) ∙ sym (swap-both-at j i pj pi)
 
   -- ---- twice
   pub swap-rows-twice : swap-rows n (swap-rows n m a b) a b ≡ m

@@ -41,9 +41,3 @@ countEqual magnitude c x = range 0 (length c) (tally magnitude c x) 0
 unfoldable pub largest : Bool → List Float → Found
 unfolding bestOf countEqual
 largest magnitude c = record { index = bestOf magnitude c .index; tied = ltb 1 (countEqual magnitude c (bestOf magnitude c .max)) }
-
-abbrev pub index-of-largest : List Float → ℕ
-index-of-largest c = largest false c .index
-
-abbrev pub index-of-largest-abs : List Float → ℕ
-index-of-largest-abs c = largest true c .index

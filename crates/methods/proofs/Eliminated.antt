@@ -2,20 +2,20 @@
 -- along with moved positions.
 use mathlib.Core.Path.{_≡_, refl, sym, ap, ap₂, _∙_, subst}
 use mathlib.Core.List.{List}
-use mathlib.Core.Bool.{Bool, true, false, cond}
-use Prim.Native.Nat.{ℕ, zero, suc, _+_, _*_, _≤_, _<_, max}
+use mathlib.Core.Bool.{cond}
+use Prim.Native.Nat.{ℕ, suc, _+_, _≤_, _<_, max}
 use native.Mathlib.Decide.{ℕ-discrete, decLt}
 use native.Mathlib.Omega.{arith}
 use lib.Dec.{ltb, eqb}
 use borrow.Author.Tests.{lt-ltb, le-ltb, eq-eqb, ne-eqb}
 use lib.Ieee.{Float, binary64}
 use Rattle.arithmetic.specs.Double.{_⊖_, _⊗_, _⊘_}
-use Rattle.arithmetic.specs.Loop.{range, range-ind}
+use Rattle.arithmetic.specs.Loop.{range-ind}
 use Rattle.arithmetic.specs.Same.{mul-commutes}
 use Rattle.arithmetic.specs.Sqrt.{sqrt}
 use Rattle.matrix.specs.Matrix.{at, put}
 use Rattle.matrix.proofs.EntryLaws.{Entries, put-entries, at-put-same, at-put-other}
-use Rattle.matrix.proofs.Bijection.{Bijection, Fixes, stays-above}
+use Rattle.matrix.proofs.Bijection.{Bijection, Fixes, stays-after}
 use Rattle.methods.specs.Statements.{eliminateEntry, divideEntries, eliminateRow, eliminate}
 use Rattle.methods.proofs.Moved.{Moved}
 
@@ -232,9 +232,6 @@ module _ (n j : ℕ) (σ τ : ℕ → ℕ) (A B : List Float) (pj : j < n) (P : 
   pub moved-column : (x : ℕ) → x < n → at n B x j ≡ at n A (σ x) j
   moved-column x px = M .moved x j px pj ∙ ap (at n A (σ x)) fixed
 
-  pub moved-after : (x : ℕ) → j < x → x < n → j < σ x
-  moved-after x a b = omega (arith, stays-above n (j + 1) σ τ P f x (omega arith) b)
-
   pub moved-symmetric : (x y : ℕ) → x < n → y < n → at n B x y ≡ at n B y x
   moved-symmetric x y px py = M .moved x y px py ∙ s (σ x) (σ y) (P .to-high x (omega arith) px) (P .to-high y (omega arith) py) ∙ sym (M .moved y x py px)
 
@@ -254,13 +251,13 @@ module _ (n j : ℕ) (σ τ : ℕ → ℕ) (A B : List Float) (pj : j < n) (P : 
       go (before p) c = low-row (at n B) j r x y p ∙ E ∙ sym (low-row (at n A) j r (σ x) (σ y) (low x p px))
       go (is-j p) (before q) = low-column (at n B) j r x y q ∙ E ∙ sym (low-column (at n A) j r (σ x) (σ y) (low y q py))
       go (is-j p) (is-j q) = corner (at n B) j r x y p q ∙ sym (corner (at n A) j r (σ x) (σ y) (same x p) (same y q))
-      go (is-j p) (after q) = in-row (at n B) j r x y p q ∙ ap (λ (v : Float). v ⊘ r) E ∙ sym (in-row (at n A) j r (σ x) (σ y) (same x p) (moved-after y q py))
+      go (is-j p) (after q) = in-row (at n B) j r x y p q ∙ ap (λ (v : Float). v ⊘ r) E ∙ sym (in-row (at n A) j r (σ x) (σ y) (same x p) (stays-after n j σ τ P f y q py))
       go (after p) (before q) = low-column (at n B) j r x y q ∙ E ∙ sym (low-column (at n A) j r (σ x) (σ y) (low y q py))
-      go (after p) (is-j q) = in-column (at n B) j r x y p q ∙ ap (λ (v : Float). v ⊘ r) E ∙ sym (in-column (at n A) j r (σ x) (σ y) (moved-after x p px) (same y q))
+      go (after p) (is-j q) = in-column (at n B) j r x y p q ∙ ap (λ (v : Float). v ⊘ r) E ∙ sym (in-column (at n A) j r (σ x) (σ y) (stays-after n j σ τ P f x p px) (same y q))
       go (after p) (after q) =
           inside (at n B) j r x y p q
           ∙ ap₂ _⊖_ E (ap₂ _⊗_ (ap (λ (v : Float). v ⊘ r) (moved-column x px)) (ap (λ (v : Float). v ⊘ r) (moved-column y py)))
-          ∙ sym (inside (at n A) j r (σ x) (σ y) (moved-after x p px) (moved-after y q py))
+          ∙ sym (inside (at n A) j r (σ x) (σ y) (stays-after n j σ τ P f x p px) (stays-after n j σ τ P f y q py))
 
   pub eliminate-moved : Moved n σ (eliminate n j A) (eliminate n j B)
   eliminate-moved = record {

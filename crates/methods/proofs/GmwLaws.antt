@@ -1,4 +1,4 @@
--- The definitions of GMW81 by the loops and the branches that the code has, and that a run's p lists rows.
+-- The definitions of GMW81 by the loops and the branches that the code has.
 use mathlib.Core.Path.{_≡_, refl, sym, ap}
 use mathlib.Core.Bool.{Bool, true, false, not}
 use mathlib.Core.List.{List}
@@ -9,7 +9,7 @@ use borrow.Author.Tests.{lt-ltb, le-ltb}
 use lib.ListN.{getD, set}
 use lib.Ieee.{Float, nan}
 use Rattle.arithmetic.specs.Double.{plus-zero, _⊕_, _⊖_, _⊗_, _⊘_, square}
-use Rattle.arithmetic.specs.Loop.{range, range-none, range-ind}
+use Rattle.arithmetic.specs.Loop.{range, range-none}
 use Rattle.matrix.specs.Matrix.{at, put, zeros}
 use Rattle.matrix.specs.Search.{largest}
 use Rattle.matrix.proofs.Bijection.{Is, is, holds, fails}
@@ -18,7 +18,6 @@ use Rattle.methods.specs.Marks.{mark, marked}
 use Rattle.methods.specs.Result.{identity}
 use Rattle.methods.specs.Statements.{largerMagnitude, diagonalFrom, pivotMatrix, pivotList, reorder}
 use Rattle.methods.specs.declared.decomposition.Mark.the-variants.{Never}
-use Rattle.methods.proofs.Pivots.{pick-below, Rows, identity-rows, pivot-rows}
 
 pub row-is : (n : ℕ) (l : List Float) (i : ℕ) (acc : Float) → foldRow n l i acc ≡ range 0 n (foldOffDiagonal n l i) acc
 unfolding foldRow
@@ -115,15 +114,3 @@ module _ (n : ℕ) (s : Run) where
       go : Is (marked (s .refused)) → finish n s .p ≡ s .p
       go (holds h) = ap (λ (t : Run). t .p) (finish-stays h)
       go (fails h) = ap (λ (t : Run). t .p) (finish-goes h)
-
--- ---- p lists rows throughout
-step-rows : (n : ℕ) (delta beta : Float) (j : ℕ) (s : Run) → j < n → Rows n (s .p) → Rows n (step n delta beta j s .p)
-step-rows n delta beta j s pj R = go (is (marked (s .refused)))
-  where
-    go : Is (marked (s .refused)) → Rows n (step n delta beta j s .p)
-    go (holds h) = rw (step-stays n delta beta j s h) R
-    go (fails h) = rw (step-goes n delta beta j s h, step-at-is) (pivot-rows n j (largest true (diagonalFrom n (s .c) j) .index) (s .p) (pick-below true n j (s .c) pj) R)
-
-pub steps-rows : (n : ℕ) (delta beta : Float) (a : List Float) → Rows n (range 0 n (step n delta beta) (start n a) .p)
-steps-rows n delta beta a = range-ind (λ i s. Rows n (s .p)) 0 n (step n delta beta) (start n a) (omega arith)
-    (rw started-is (identity-rows n)) (λ j p q s R. step-rows n delta beta j s q R)

@@ -13,8 +13,8 @@ use Rattle.methods.specs.Marks.{marked}
 use Rattle.methods.specs.Statements.{diagonalMax, pivotMatrix}
 use Rattle.methods.specs.Gmw81.{Run, start, divideRow, updateDiagonal, c₂Of, djOf, storedFinite, stepAt, step, finish, run, offDiagonalMax, deltaOf, betaOf}
 use Rattle.methods.specs.declared.decomposition.Mark.the-variants.{Never}
-use Rattle.methods.proofs.GmwLaws.{step-at-is, step-stays, step-goes, finish-stays}
-use Rattle.methods.proofs.Pivots.{pick-below}
+use Rattle.methods.proofs.GmwLaws.{started-is, step-at-is, step-stays, step-goes, finish-stays}
+use Rattle.methods.proofs.Pivots.{pick-below, Permuted, identity-permuted, pivot-permuted}
 use Rattle.methods.proofs.Refused.{NotRefused, goes-on, unmarked-never}
 
 -- ---- P j holds before step j: of a run that the step changes, and of a refused one
@@ -32,6 +32,13 @@ module _ (n : ℕ) (delta beta : Float) (P : ℕ → Run → Type 0) (K : KeptBy
 
   pub steps-keep : (a : List Float) → P 0 (start n a) → P n (range 0 n (step n delta beta) (start n a))
   steps-keep a b = range-ind P 0 n (step n delta beta) (start n a) (omega arith) b (λ j p q s h. step-keeps j s q h)
+
+-- p is a permutation throughout
+permuted-kept : (n : ℕ) (delta beta : Float) → KeptBySteps n delta beta (λ j s. Permuted n (s .p))
+permuted-kept n delta beta = record { by-step = λ j k tie s h hk P. rw step-at-is (pivot-permuted n j k (s .p) hk P); refused = λ j s h P. P }
+
+pub steps-permuted : (n : ℕ) (delta beta : Float) (a : List Float) → Permuted n (range 0 n (step n delta beta) (start n a) .p)
+steps-permuted n delta beta a = steps-keep n delta beta (λ j s. Permuted n (s .p)) (permuted-kept n delta beta) a (rw started-is (identity-permuted n))
 
 -- ---- the values of a step with the pivot k, named as in stepAt, and what was tested where nothing is refused
 abbrev pub l₂Of : ℕ → ℕ → ℕ → Run → List Float

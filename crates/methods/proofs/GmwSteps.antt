@@ -1,17 +1,16 @@
 -- The statements of a step of GMW81: what stands where afterwards, and that they go along with moved positions.
 use mathlib.Core.Path.{_≡_, refl, sym, ap, ap₂, _∙_, subst}
 use mathlib.Core.List.{List}
-use mathlib.Core.Bool.{Bool, true, false, cond}
-use Prim.Native.Nat.{ℕ, suc, _+_, _-_, _*_, _≤_, _<_}
+use Prim.Native.Nat.{ℕ, _+_, _*_, _≤_, _<_}
 use native.Mathlib.Decide.{ℕ-discrete, decLt}
 use native.Mathlib.Omega.{arith}
-use lib.ListN.{length, getD, replicate, length-replicate, getD-replicate}
+use lib.ListN.{getD, length-replicate, getD-replicate}
 use lib.Ieee.{Float, nan}
 use Rattle.arithmetic.specs.Double.{plus-zero, _⊕_, _⊖_, _⊗_, _⊘_, square}
 use Rattle.arithmetic.specs.Loop.{range, range2-ind}
-use Rattle.matrix.specs.Matrix.{at, put, zeros, cell-lt}
+use Rattle.matrix.specs.Matrix.{at, zeros, cell-lt}
 use Rattle.matrix.proofs.EntryLaws.{Entries}
-use Rattle.matrix.proofs.Bijection.{Bijection, Fixes, bijection-from, stays-above, injective}
+use Rattle.matrix.proofs.Bijection.{Bijection, Fixes, bijection-from, stays-above, stays-after, injective}
 use Rattle.methods.specs.Gmw81.{divideRow, dot, column, thetaOf, updateDiagonal, start}
 use Rattle.methods.proofs.Tests.{Double}
 use Rattle.methods.proofs.Magnitudes.{largestMagnitude-along}
@@ -88,9 +87,6 @@ module _ (n j : ℕ) (σ τ : ℕ → ℕ) (pj : j < n) (P : Bijection 0 n σ τ
   low : (x : ℕ) → x < j → x < n → σ x ≡ x
   low x p q = f x (omega arith) q
 
-  high : (x : ℕ) → j < x → x < n → j < σ x
-  high x p q = omega (arith, stays-above n (j + 1) σ τ P f x (omega arith) q)
-
   one-to-one : (x y : ℕ) → x < n → y < n → σ x ≡ σ y → x ≡ y
   one-to-one x y px py e = injective P x y (omega arith) px (omega arith) py e
 
@@ -101,14 +97,11 @@ module _ (n j : ℕ) (σ τ : ℕ → ℕ) (pj : j < n) (P : Bijection 0 n σ τ
   back-low : (x : ℕ) → x < n → σ x < j → x < j
   back-low x px e = elim (decLt x j) [
     | yes p ↦ p
-    | no q ↦ elim (ℕ-discrete x j) [ yes d ↦ absurd (omega (arith, ap σ d, fixed)) | no d ↦ let w : j < x = omega arith in absurd (omega (arith, high x w px)) ]
+    | no q ↦ elim (ℕ-discrete x j) [ yes d ↦ absurd (omega (arith, ap σ d, fixed)) | no d ↦ let w : j < x = omega arith in absurd (omega (arith, stays-after n j σ τ P f x w px)) ]
   ]
 
   back-high : (x : ℕ) → x < n → j < σ x → j < x
   back-high x px e = elim (decLt j x) [ yes p ↦ p | no q ↦ absurd (omega (arith, f x (omega arith) px)) ]
-
-  to-high : (x : ℕ) → j ≤ x → x < n → j ≤ σ x
-  to-high x p q = elim (ℕ-discrete x j) [ yes e ↦ omega (arith, ap σ e, fixed) | no d ↦ let w : j < x = omega arith in omega (arith, high x w q) ]
 
   pub row-moved : (cA cB d lA lB : List Float) → Moved n σ cA cB → Moved n σ lA lB → Moved n σ (divideRow n j cA d lA) (divideRow n j cB d lB)
   row-moved cA cB d lA lB C L = record {
@@ -158,7 +151,7 @@ module _ (n j : ℕ) (σ τ : ℕ → ℕ) (pj : j < n) (P : Bijection 0 n σ τ
       here x p q =
           column-at n j lB cB pj (C .entriesB) x p q
           ∙ ap₂ _⊖_ (L .moved x j q pj ∙ ap (at n lA (σ x)) fixed) (dots x q)
-          ∙ sym (column-at n j lA cA pj (C .entriesA) (σ x) (to-high x p q) (P .to-high x (omega arith) q))
+          ∙ sym (column-at n j lA cA pj (C .entriesA) (σ x) (stays-above n j σ τ P (λ t a b. f t (omega arith) b) x p q) (P .to-high x (omega arith) q))
 
   pub diagonal-moved : (dj : Float) (cA cB : List Float) → Moved n σ cA cB → Moved n σ (updateDiagonal n j dj cA) (updateDiagonal n j dj cB)
   diagonal-moved dj cA cB C = record {
@@ -182,7 +175,7 @@ module _ (n j : ℕ) (σ τ : ℕ → ℕ) (pj : j < n) (P : Bijection 0 n σ τ
           let c : at n cB x j ≡ at n cA (σ x) j = C .moved x j q pj ∙ ap (at n cA (σ x)) fixed in
           diagonal-at n j dj cB pj (C .entriesB) x p q
           ∙ ap₂ _⊖_ (C .moved x x q q) (ap (λ (v : Float). square v ⊘ dj) c)
-          ∙ sym (diagonal-at n j dj cA pj (C .entriesA) (σ x) (high x p q) (P .to-high x (omega arith) q))
+          ∙ sym (diagonal-at n j dj cA pj (C .entriesA) (σ x) (stays-after n j σ τ P f x p q) (P .to-high x (omega arith) q))
 
   -- theta has the same bits where the column is finite
   pub theta-moved : (cA cB : List Float) → Moved n σ cA cB → ((i : ℕ) → j < i → i < n → Double (at n cA i j)) → thetaOf n j cA ≡ thetaOf n j cB

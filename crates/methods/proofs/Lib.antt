@@ -22,4 +22,5 @@ pub mod GmwRuns
 pub mod GmwFinite
 pub mod Answers
 pub mod SeLaws
+pub mod SeRuns
 pub mod Symmetric

@@ -2,14 +2,12 @@
 use mathlib.Core.Path.{_≡_, refl, sym, ap, _∙_, subst}
 use mathlib.Core.Logic.{_⊎_, inl, inr, ⊎-elim}
 use mathlib.Core.List.{List}
-use mathlib.Core.Bool.{Bool, true, false, cond, true≢false, false≢true}
-use Prim.Native.Nat.{ℕ, zero, suc, _+_, _*_, _≤_, _<_}
+use mathlib.Core.Bool.{false, false≢true}
+use Prim.Native.Nat.{ℕ, suc, _≤_, _<_}
 use native.Mathlib.Decide.{ℕ-discrete}
 use native.Mathlib.Omega.{arith}
-use lib.IntN.{pos}
-use lib.Dec.{T, eqb}
-use borrow.Author.Tests.{le-ltb, eq-eqb, ne-eqb}
-use lib.Ieee.{Float, nan, inf, fin, binary64, lt, isNan, fits, ofBits, up, down}
+use borrow.Author.Tests.{eq-eqb, ne-eqb}
+use lib.Ieee.{Float, binary64, lt, isNan, fits, ofBits}
 use Rattle.arithmetic.specs.Double.{abs, plus-zero}
 use Rattle.arithmetic.specs.Loop.{range, range-ind}
 use Rattle.arithmetic.specs.Order.{lt-irreflexive, lt-transitive, lt-total}

@@ -1,22 +1,20 @@
 -- Two matrices of which the second is the first with its positions moved by σ; kept by pivots. And which of their entries are finite.
-use mathlib.Core.Path.{_≡_, refl, sym, ap, ap₂, _∙_, subst}
+use mathlib.Core.Path.{_≡_, sym, ap, ap₂, _∙_, subst}
 use mathlib.Core.List.{List}
-use mathlib.Core.Bool.{Bool, true, false, cond}
-use Prim.Native.Nat.{ℕ, suc, _+_, _*_, _≤_, _<_}
+use mathlib.Core.Bool.{true}
+use Prim.Native.Nat.{ℕ, _+_, _≤_, _<_}
 use native.Mathlib.Decide.{ℕ-discrete}
 use native.Mathlib.Omega.{arith}
 use lib.ListN.{length, getD}
-use lib.Dec.{eqb}
 use borrow.Author.Tests.{eq-eqb, ne-eqb}
 use lib.Ieee.{Float}
 use lib.Ieee.Scale.{finite}
 use Rattle.matrix.specs.Matrix.{at}
-use Rattle.matrix.specs.Swap.{swap, swap-rows, swap-columns}
 use Rattle.matrix.proofs.EntryLaws.{Entries, same-entries}
 use Rattle.matrix.proofs.SwapLaws.{transpose, transpose-self, transpose-lt, transpose-twice, length-swap, getD-swap, swap-both-entries, swap-both-at}
-use Rattle.matrix.proofs.Bijection.{Bijection, inverse, Fixes, turned, turned-lt, same-tests}
+use Rattle.matrix.proofs.Bijection.{Bijection, Fixes, turned, turned-lt, same-tests}
 use Rattle.methods.specs.Statements.{pivotMatrix, pivotList, all, blockFinite}
-use Rattle.methods.proofs.Tests.{all-each, all-true, all-along}
+use Rattle.methods.proofs.Tests.{all-each, all-true}
 
 -- B's entry (x, y) is A's entry (σ x, σ y)
 pub record Moved (n : ℕ) (σ : ℕ → ℕ) (A B : List Float) : Type 0 where

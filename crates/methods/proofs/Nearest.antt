@@ -1,15 +1,13 @@
 -- tau is the double nearest the cube root of 2^-52, and mu the double nearest 0.1.
 use mathlib.Core.Path.{_≡_, refl, sym, ap, _∙_, subst}
-use mathlib.Core.Logic.{_⊎_, inl, inr}
 use Prim.Native.Nat.{ℕ, suc, _+_, _-_, _*_, _^_, _≤_, _<_}
-use native.Mathlib.Decide.{decLt, ℕ-discrete}
+use native.Mathlib.Decide.{decLt}
 use native.Mathlib.Omega.{arith}
-use native.Mathlib.Nat.{le-trans, lt-of-lt-of-le, lt-of-le-of-lt, le-of-eq, mul-le-mul, mul-le-mul-right, mul-lt-mul-of-pos-right, lt-of-mul-lt-mul-right, mul-assoc, mul-comm, mul-left-comm, mul-mul-mul-comm, add-mul, pow-suc}
-use lib.Dec.{lit<, lit≤}
+use native.Mathlib.Nat.{le-trans, lt-of-lt-of-le, lt-of-le-of-lt, le-of-eq, mul-le-mul, mul-le-mul-right, mul-lt-mul-of-pos-right, lt-of-mul-lt-mul-right, mul-assoc, mul-comm, mul-left-comm, add-mul, pow-suc}
+use lib.Dec.{lit<}
 use lib.Pow.{pow-pos, pow-mono, pow-add}
-use lib.Ieee.{Float, ofBits}
+use lib.Ieee.{ofBits}
 use Rattle.arithmetic.specs.Sqrt.{magnitude}
-use Rattle.arithmetic.specs.Nearest.{NotNegative}
 use Rattle.arithmetic.proofs.Nearest.{held-by}
 use Rattle.methods.specs.Factor.{tau, mu}
 use Rattle.methods.specs.Constants.{NearerCube, NearestCubeRoot, NearerTenth, NearestTenth}

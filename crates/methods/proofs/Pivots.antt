@@ -1,20 +1,22 @@
--- The pivot that a search finds is a row, and pivots keep an order of the rows.
-use mathlib.Core.Path.{_≡_, _∙_}
+-- The pivot that a search finds is a row, and pivots keep p a permutation of the rows.
+use mathlib.Core.Path.{_≡_, ap, _∙_}
 use mathlib.Core.Bool.{Bool}
 use mathlib.Core.List.{List}
 use Prim.Native.Nat.{ℕ, _+_, _-_, _<_}
 use native.Mathlib.Omega.{arith}
-use lib.ListN.{length}
+use lib.ListN.{length, getD}
 use lib.Ieee.{Float}
 use Rattle.matrix.specs.Matrix.{at}
 use Rattle.matrix.specs.Plain.{AllBelow}
 use Rattle.matrix.specs.Search.{largest}
-use Rattle.matrix.specs.Table.{length-table, getD-table}
+use Rattle.matrix.specs.Table.{table, length-table, getD-table}
+use Rattle.matrix.specs.declared.utils.Found.{Found}
 use Rattle.matrix.proofs.SearchLaws.{largest-top}
-use Rattle.matrix.proofs.SwapLaws.{transpose, transpose-lt}
+use Rattle.matrix.proofs.SwapLaws.{transpose, transpose-lt, transpose-twice}
 use Rattle.methods.specs.Result.{identity}
 use Rattle.methods.specs.Statements.{diagonalFrom, pivotList}
 use Rattle.methods.proofs.Moved.{length-pivot, getD-pivot}
+use Rattle.methods.proofs.Reordered.{Order}
 
 pub length-diagonal : (n j : ℕ) (m : List Float) → length (diagonalFrom n m j) ≡ n - j
 unfolding diagonalFrom
@@ -23,22 +25,50 @@ length-diagonal n j m = length-table (n - j) (λ i. at n m (j + i) (j + i))
 pub pick-below : (magnitude : Bool) (n j : ℕ) (m : List Float) → j < n → j + largest magnitude (diagonalFrom n m j) .index < n
 pick-below magnitude n j m pj = omega (arith, length-diagonal n j m, largest-top magnitude (diagonalFrom n m j) (omega (arith, length-diagonal n j m)) .below)
 
--- a list of n rows
-pub record Rows (n : ℕ) (p : List ℕ) : Type 0 where
-  pub len : length p ≡ n
-  pub below : AllBelow n p
+-- .. as code finds it
+pub diagonal-pick : (magnitude : Bool) (n j : ℕ) (m : List Float) (f : Found) → f ≡ largest magnitude (diagonalFrom n m j) → j < n → j + f .index < n
+diagonal-pick magnitude n j m f e h = rw e (pick-below magnitude n j m h)
 
-pub identity-rows : (n : ℕ) → Rows n (identity n)
-identity-rows n = record {
-  len = length-table n (λ i. i);
-  below = λ k h. let l : k < n = omega (arith, length-table n (λ i. i)) in rw (getD-table n (λ i. i) k 0 l) l;
+-- ---- p lists 0 to n - 1, each once
+pub record Permuted (n : ℕ) (p : List ℕ) : Type 0 where
+  pub len : length p ≡ n
+  pub inverse : ℕ → ℕ
+  pub order : Order n p inverse
+
+pub permuted-below : (n : ℕ) (p : List ℕ) → Permuted n p → AllBelow n p
+permuted-below n p P k h = P .order .to-high k (omega arith) (omega (arith, P .len))
+
+-- in order
+identity-permutes : (n : ℕ) → Order n (table n (λ i. i)) (λ i. i)
+identity-permutes n = record {
+  to-low = λ i u w. omega arith;
+  to-high = λ i u w. rw (getD-table n (λ k. k) i 0 w) w;
+  from-low = λ i u w. omega arith;
+  from-high = λ i u w. w;
+  to-from = λ i u w. getD-table n (λ k. k) i 0 w;
+  from-to = λ i u w. getD-table n (λ k. k) i 0 w;
 }
 
-pub pivot-rows : (n j k : ℕ) (p : List ℕ) → j + k < n → Rows n p → Rows n (pivotList 0 j k p)
-pivot-rows n j k p pk R = record {
-  len = length-pivot 0 j k p ∙ R .len;
-  below = λ x h.
-      let l : x < n = omega (arith, length-pivot 0 j k p, R .len) in
-      let t : transpose j (j + k) x < n = transpose-lt n j (j + k) x (omega arith) pk l in
-      rw (getD-pivot 0 j k p x (omega (arith, R .len))) (R .below (transpose j (j + k) x) (omega (arith, R .len)));
+pub identity-permuted : (n : ℕ) → Permuted n (identity n)
+identity-permuted n = record { len = length-table n (λ i. i); inverse = λ i. i; order = identity-permutes n }
+
+-- a pivot keeps it so
+pivot-permutes : (n j k : ℕ) (p : List ℕ) (q : ℕ → ℕ) → length p ≡ n → j + k < n → Order n p q → Order n (pivotList 0 j k p) (λ r. transpose j (j + k) (q r))
+pivot-permutes n j k p q h pk O = record {
+  to-low = λ i u w. omega arith;
+  to-high = λ i u w. rw (getD-pivot 0 j k p i (omega arith)) (O .to-high (transpose j (j + k) i) (omega arith) (transpose-lt n j (j + k) i (omega arith) pk w));
+  from-low = λ i u w. omega arith;
+  from-high = λ i u w. transpose-lt n j (j + k) (q i) (omega arith) pk (O .from-high i u w);
+  to-from = λ i u w. getD-pivot 0 j k p (transpose j (j + k) (q i)) (omega arith) ∙ ap (λ (x : ℕ). getD p x 0) (transpose-twice j (j + k) (q i)) ∙ O .to-from i u w;
+  from-to = λ i u w.
+      ap (λ (x : ℕ). transpose j (j + k) (q x)) (getD-pivot 0 j k p i (omega arith))
+      ∙ ap (transpose j (j + k)) (O .from-to (transpose j (j + k) i) (omega arith) (transpose-lt n j (j + k) i (omega arith) pk w))
+      ∙ transpose-twice j (j + k) i;
+}
+
+pub pivot-permuted : (n j k : ℕ) (p : List ℕ) → j + k < n → Permuted n p → Permuted n (pivotList 0 j k p)
+pivot-permuted n j k p h P = record {
+  len = length-pivot 0 j k p ∙ P .len;
+  inverse = λ r. transpose j (j + k) (P .inverse r);
+  order = pivot-permutes n j k p (P .inverse) (P .len) h (P .order);
 }

@@ -1,23 +1,23 @@
 -- The elimination of a symmetric matrix row by row: its invariants, and that it comes to `eliminate`.
-use mathlib.Core.Path.{_≡_, refl, sym, ap, ap₂, _∙_, subst}
+use mathlib.Core.Path.{_≡_, refl, sym, ap, ap₂, _∙_}
 use mathlib.Core.List.{List}
 use mathlib.Core.Bool.{Bool, true, _&&_}
-use Prim.Native.Nat.{ℕ, suc, _+_, _*_, _≤_, _<_}
+use Prim.Native.Nat.{ℕ, _+_, _*_, _≤_, _<_}
 use native.Mathlib.Decide.{ℕ-discrete}
 use native.Mathlib.Omega.{arith}
-use lib.ListN.{length, getD, set}
+use lib.ListN.{getD, set}
 use lib.Ieee.{Float, nan}
 use lib.Ieee.Scale.{finite}
 use Rattle.arithmetic.specs.Double.{_⊖_, _⊗_, _⊘_}
 use Rattle.arithmetic.specs.Loop.{range-none, range-more}
 use Rattle.arithmetic.specs.Order.{and-1, and-2}
 use Rattle.arithmetic.specs.Sqrt.{sqrt}
-use Rattle.matrix.specs.Matrix.{Square, at, put}
+use Rattle.matrix.specs.Matrix.{at, put}
 use Rattle.matrix.proofs.EntryLaws.{Entries, put-entries, at-put-same, at-put-other, same-entries}
 use Rattle.matrix.proofs.Bijection.{same-tests}
 use Rattle.methods.specs.Statements.{all, blockFinite, eliminate}
 use Rattle.methods.specs.Elimination.{Symmetric, RowWritten, RowsEliminated, subtracted}
-use Rattle.methods.proofs.Tests.{all-each, all-true}
+use Rattle.methods.proofs.Tests.{all-each, all-true, all-same}
 use Rattle.methods.proofs.Moved.{block-each, block-true}
 use Rattle.methods.proofs.StatementLaws.{andTest}
 use Rattle.methods.proofs.Eliminated.{eliminated, eliminate-at, eliminate-entries, low-row, low-column, corner, in-row, in-column, inside, Side, side, before, is-j, after}
@@ -30,11 +30,6 @@ all-none a test = sym (range-none a a (andTest test) true (omega arith))
 all-more : (a k : ℕ) (test : ℕ → Bool) (ok ok' : Bool) → a ≤ k → ok ≡ all a k test → ok' ≡ (ok && test k) → ok' ≡ all a (k + 1) test
 unfolding all
 all-more a k test ok ok' h e g = g ∙ ap (λ (b : Bool). b && test k) e ∙ sym (range-more a k (andTest test) true h)
-
-all-same : (a b : ℕ) (f g : ℕ → Bool) → a ≤ b → ((i : ℕ) → a ≤ i → i < b → f i ≡ g i) → all a b f ≡ all a b g
-all-same a b f g h e = same-tests (all a b f) (all a b g)
-    (λ t. all-true a b g h (λ i p q. sym (e i p q) ∙ all-each a b f h t i p q))
-    (λ t. all-true a b f h (λ i p q. e i p q ∙ all-each a b g h t i p q))
 
 -- ---- a row
 module _ (n i a : ℕ) (f : ℕ → Float) (m : List Float) where
@@ -76,9 +71,6 @@ module _ (n j : ℕ) (c m : List Float) where
   }
 
   module _ (i : ℕ) (l l₁ l₂ : List Float) (ok : Bool) (ji : j < i) (pi : i < n) (R : RowsEliminated n j c m i l ok) (e : l₁ ≡ put n l i j (getD c i nan)) where
-    pub stored-entries : Entries n l₁
-    stored-entries = rw e (put-entries n l i j (getD c i nan) (R .entries))
-
     stored-column : at n l₁ i j ≡ getD c i nan
     stored-column = rw e (at-put-same n l i j (getD c i nan) (R .entries) pi (omega arith))
 

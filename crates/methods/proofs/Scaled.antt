@@ -7,6 +7,7 @@ use native.Mathlib.Decide.{ℕ-discrete}
 use native.Mathlib.Nat.{div-lt-iff-lt-mul}
 use native.Mathlib.Omega.{arith}
 use borrow.Author.Tests.{eq-eqb, ne-eqb}
+use lib.Arith.{digits-div, digits-mod}
 use lib.ListN.{length, getD}
 use lib.Dec.{eqb}
 use lib.Ieee.{Float, nan, binary64}
@@ -19,7 +20,7 @@ use Rattle.matrix.specs.Checks.{AllFinite}
 use Rattle.matrix.specs.Matrix.{at, put, cell-lt}
 use Rattle.matrix.specs.Table.{table, length-table, getD-table}
 use Rattle.matrix.proofs.Bijection.{same-tests}
-use Rattle.matrix.proofs.EntryLaws.{Entries, same-entries, row-of, column-of}
+use Rattle.matrix.proofs.EntryLaws.{Entries, same-entries}
 use Rattle.methods.specs.Gmw81.{doutOf, product, scaledFinite}
 use Rattle.methods.specs.Statements.{all}
 use Rattle.methods.proofs.Tests.{all-each, all-true}
@@ -33,7 +34,7 @@ product-at : (n : ℕ) (a b : List Float) (x y : ℕ) → x < n → y < n → at
 unfolding product
 product-at n a b x y px py =
     getD-table (n * n) (λ k. range 0 n (λ t sum. sum ⊕ at n a (k / n) t ⊗ at n b t (k % n)) plus-zero) (x * n + y) nan (cell-lt n x y px py)
-    ∙ ap₂ (λ (i k : ℕ). range 0 n (λ t sum. sum ⊕ at n a i t ⊗ at n b t k) plus-zero) (row-of n x y py) (column-of n x y py)
+    ∙ ap₂ (λ (i k : ℕ). range 0 n (λ t sum. sum ⊕ at n a i t ⊗ at n b t k) plus-zero) (digits-div x py) (digits-mod x py)
 
 pub product-entries : (n : ℕ) (a b : List Float) → Entries n (product n a b)
 unfolding product
@@ -47,7 +48,7 @@ unfolding doutOf
 dout-is n d k h = getD-table (n * n) (λ x. diagonalOr d (x / n) (x % n)) k nan h
 
 dout-at : (n : ℕ) (d : List Float) (x y : ℕ) → x < n → y < n → at n (doutOf n d) x y ≡ diagonalOr d x y
-dout-at n d x y px py = dout-is n d (x * n + y) (cell-lt n x y px py) ∙ ap₂ (diagonalOr d) (row-of n x y py) (column-of n x y py)
+dout-at n d x y px py = dout-is n d (x * n + y) (cell-lt n x y px py) ∙ ap₂ (diagonalOr d) (digits-div x py) (digits-mod x py)
 
 root-at : (n : ℕ) (d r : List Float) (i : ℕ) → r ≡ table n (λ k. sqrt (getD d k nan)) → i < n → getD r i nan ≡ sqrt (getD d i nan)
 root-at n d r i e h = ap (λ (l : List Float). getD l i nan) e ∙ getD-table n (λ k. sqrt (getD d k nan)) i nan h

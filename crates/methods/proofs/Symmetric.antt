@@ -1,26 +1,25 @@
 -- The matrix that SE90 and SE99 factorize stays symmetric up to the last block.
-use mathlib.Core.Path.{_≡_, refl, sym, ap, _∙_, subst}
-use mathlib.Core.Bool.{Bool, false, _||_}
+use mathlib.Core.Path.{_≡_, refl, sym, _∙_, subst}
+use mathlib.Core.Bool.{Bool, false}
 use mathlib.Core.List.{List}
-use Prim.Native.Nat.{ℕ, suc, _+_, _≤_, _<_}
+use Prim.Native.Nat.{ℕ, _+_, _<_}
 use native.Mathlib.Decide.{ℕ-discrete}
 use native.Mathlib.Omega.{arith}
 use lib.ListN.{length, drop}
 use lib.Ieee.{Float}
-use Rattle.arithmetic.specs.Loop.{range-ind}
 use Rattle.matrix.specs.Matrix.{Square, at, put}
 use Rattle.matrix.specs.Search.{largest}
 use Rattle.matrix.proofs.EntryLaws.{Entries, put-entries, at-put-other}
 use Rattle.methods.specs.Marks.{marked}
-use Rattle.methods.specs.Statements.{pivotMatrix, diagonalFrom, eliminate}
+use Rattle.methods.specs.Statements.{pivotMatrix, eliminate}
 use Rattle.methods.specs.Elimination.{Symmetric}
-use Rattle.methods.specs.Se.{Run, start, tmpOf, leavesBefore, leavesAfter, leave, pivot, factorize, stepAt, phaseOneStep, inPhaseOne, phaseOne, phaseTwoStepAt, phaseTwoStep}
+use Rattle.methods.specs.Se.{Run, start, pivot, factorize, inPhaseOne, phaseOne, phaseTwoStepAt, phaseTwoStep}
 use Rattle.methods.specs.declared.schnabel_eskow.Tolerances.{Tolerances}
 use Rattle.methods.specs.declared.schnabel_eskow.Variant.{Variant}
 use Rattle.methods.proofs.Moved.{pivot-entries, pivot-symmetric}
 use Rattle.methods.proofs.Eliminated.{eliminate-entries, eliminate-symmetric}
-use Rattle.methods.proofs.Pivots.{pick-below}
-use Rattle.methods.proofs.SeLaws.{cond-keeps, bounds-pick, stepAt-is, phaseOneStep-is, inPhaseOne-is, phaseOne-is, phaseTwoStep-is}
+use Rattle.methods.proofs.SeLaws.{cond-keeps, bounds-pick, phaseTwoStep-is}
+use Rattle.methods.proofs.SeRuns.{KeptInPhaseOne, inPhaseOne-keeps, phaseOne-keeps}
 
 -- ---- statements keep a symmetric matrix so
 pub pivot-keeps : (n j k : ℕ) (m m' : List Float) → Square n m → Symmetric n m → j + k < n → m' ≡ pivotMatrix n j k m → Symmetric n m'
@@ -57,19 +56,8 @@ module _ (v : Variant) (t : Tolerances) (gamma : Float) (n : ℕ) where
   unfolding factorize
   factorize-holds j s p H = eliminate-keeps n j (s .l) p (H .0) (H .1)
 
-  stepAt-holds : (j k : ℕ) (tie : Bool) (s : Run) → j + k < n → Held n s → Held n (stepAt v t gamma n j k tie s)
-  stepAt-holds j k tie s p H =
-      let s₁ = pivot n j k tie s in
-      let H₁ = pivot-holds j k tie s p H in
-      subst (Held n) (sym (stepAt-is v t gamma n j k tie s)) (cond-keeps (Held n) (leavesAfter v t gamma (tmpOf n j (pivotMatrix n j k (s .l)))) (leave j s₁) (factorize n j s₁) H₁ (factorize-holds j s₁ (omega arith) H₁))
-
-  inPhaseOne-holds : (j : ℕ) (s : Run) → j < n → Held n s → Held n (inPhaseOne v t gamma n j s)
-  inPhaseOne-holds j s p H =
-      subst (Held n) (sym (inPhaseOne-is v t gamma n j s)) (cond-keeps (Held n) (marked (s .phase2) || marked (s .refused)) s (phaseOneStep v t gamma n j s) H
-      (subst (Held n) (sym (phaseOneStep-is v t gamma n j s)) (cond-keeps (Held n) (leavesBefore v t gamma n j (s .l)) (leave j s) _ H (stepAt-holds j _ _ s (pick-below false n j (s .l) p) H))))
-
-  phaseOne-holds : (s : Run) → Held n s → Held n (phaseOne v t gamma n s)
-  phaseOne-holds s H = subst (Held n) (sym (phaseOne-is v t gamma n s)) (range-ind (λ i x. Held n x) 0 n (inPhaseOne v t gamma n) s (omega arith) H (λ i p q x h. inPhaseOne-holds i x q h))
+  kept-one : KeptInPhaseOne v t gamma n (Held n)
+  kept-one = record { by-leave = λ j s h m w H. H; by-pivot = λ j k tie s h hk m H. pivot-holds j k tie s hk H; by-factorize = λ j s h m H. factorize-holds j s h H }
 
   stepTwo-holds : (j k : ℕ) (s : Run) → j + k < n → Held n s → Held n (phaseTwoStepAt v t gamma n j k s)
   unfolding phaseTwoStepAt
@@ -86,10 +74,10 @@ module _ (v : Variant) (t : Tolerances) (gamma : Float) (n : ℕ) where
   -- ---- as the code holds it
   module _ (s s' : Run) (h : Square n (s .l)) (S : Symmetric n (s .l)) where
     pub inPhaseOne-symmetric : (j : ℕ) → j < n → s' ≡ inPhaseOne v t gamma n j s → Symmetric n (s' .l)
-    inPhaseOne-symmetric j p e = rw e (inPhaseOne-holds j s p (h .len, S) .1)
+    inPhaseOne-symmetric j p e = rw e (inPhaseOne-keeps v t gamma n (Held n) kept-one j s p (h .len, S) .1)
 
     pub phaseOne-symmetric : s' ≡ phaseOne v t gamma n s → Symmetric n (s' .l)
-    phaseOne-symmetric e = rw e (phaseOne-holds s (h .len, S) .1)
+    phaseOne-symmetric e = rw e (phaseOne-keeps v t gamma n (Held n) kept-one s (h .len, S) .1)
 
     pub phaseTwoStep-symmetric : (j : ℕ) → j < n → length (s .g) ≡ n → s' ≡ phaseTwoStep v t gamma n j s → Symmetric n (s' .l)
     phaseTwoStep-symmetric j p g e = rw e (phaseTwoStep-holds j s p g (h .len, S) .1)

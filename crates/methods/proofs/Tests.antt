@@ -1,23 +1,22 @@
 -- Tests over a range of positions, and folds that keep the smallest or the largest: along a bijection they come out alike.
 use mathlib.Core.Path.{_≡_, refl, sym, ap, ap₂, _∙_, subst}
 use mathlib.Core.Logic.{_⊎_, inl, inr, ⊎-elim}
-use mathlib.Core.List.{List}
-use mathlib.Core.Bool.{Bool, true, false, _&&_, _||_, cond, Bool·beq, true≢false, false≢true}
+use mathlib.Core.Bool.{Bool, true, false, _&&_, _||_, cond, Bool·beq, false≢true}
 use Prim.Native.Nat.{ℕ, zero, suc, _+_, _*_, _≤_, _<_}
 use native.Mathlib.Nat.{zero-lt-suc, mul-pos, zero-mul}
 use native.Mathlib.Decide.{ℕ-discrete}
 use native.Mathlib.Omega.{arith}
-use lib.IntN.{ℤ, pos, negsuc}
+use lib.IntN.{ℤ}
 use lib.Dec.{T, ltb, eqb}
 use lib.Pow.{pow-pos}
 use borrow.Author.Tests.{eqb-true, ne-eqb, lt-ltb, le-ltb}
-use lib.Ieee.{Float, nan, inf, fin, Format, binary64, emax, low, up, down, unlike, below, lt, eq, mul, round, isNan, fits}
+use lib.Ieee.{Float, nan, inf, fin, binary64, emax, low, up, down, unlike, below, lt, eq, mul, round, isNan, fits}
 use lib.Ieee.Exact.{HasValue, round-exact}
 use lib.Ieee.Fits.{up-pos, down-pos}
 use lib.Ieee.Scale.{finite}
 use Rattle.arithmetic.specs.Loop.{range, range-ind}
-use Rattle.arithmetic.specs.Order.{and-1, and-2, lt-irreflexive, lt-transitive, lt-cotransitive, lt-total, eq-not-lt, eq-symmetric, lt-left-number, none-above-infinity}
-use Rattle.arithmetic.specs.Same.{same-double}
+use Rattle.arithmetic.specs.Order.{and-1, and-2, lt-irreflexive, lt-transitive, lt-cotransitive, lt-total, eq-not-lt, eq-symmetric, lt-left-number, none-above-infinity, finite-number}
+use Rattle.arithmetic.specs.Same.{same-double, product-pos}
 use Rattle.matrix.proofs.Bijection.{Is, is, holds, fails, same-tests, not-holds, Bijection, inverse, Along, along-inverse}
 use Rattle.methods.specs.Statements.{all}
 
@@ -25,12 +24,6 @@ use Rattle.methods.specs.Statements.{all}
 pub record Double (x : Float) : Type 0 where
   pub number : isNan x ≡ false
   pub double : T (fits binary64 x)
-
-pub finite-number : (x : Float) → finite x ≡ true → isNan x ≡ false
-unfolding isNan
-finite-number nan h = absurd (false≢true h)
-finite-number (inf s) h = absurd (false≢true h)
-finite-number (fin s m e) h = refl
 
 -- ---- a test of each position
 pub all-each : (a b : ℕ) (test : ℕ → Bool) → a ≤ b → all a b test ≡ true → (i : ℕ) → a ≤ i → i < b → test i ≡ true
@@ -41,6 +34,11 @@ all-each a b test h = range-ind (λ t c. c ≡ true → (i : ℕ) → a ≤ i �
 pub all-true : (a b : ℕ) (test : ℕ → Bool) → a ≤ b → ((i : ℕ) → a ≤ i → i < b → test i ≡ true) → all a b test ≡ true
 unfolding all
 all-true a b test h k = range-ind (λ t c. c ≡ true) a b (λ i c. c && test i) true h refl (λ t p q c e. rw (e, k t p q))
+
+pub all-same : (a b : ℕ) (f g : ℕ → Bool) → a ≤ b → ((i : ℕ) → a ≤ i → i < b → f i ≡ g i) → all a b f ≡ all a b g
+all-same a b f g h e = same-tests (all a b f) (all a b g)
+    (λ t. all-true a b g h (λ i p q. sym (e i p q) ∙ all-each a b f h t i p q))
+    (λ t. all-true a b f h (λ i p q. e i p q ∙ all-each a b g h t i p q))
 
 pub all-along : (a b : ℕ) (σ τ : ℕ → ℕ) (f g : ℕ → Bool) → a ≤ b → Bijection a b σ τ → Along a b σ f g → all a b f ≡ all a b g
 all-along a b σ τ f g h B A = same-tests (all a b f) (all a b g)
@@ -116,9 +114,6 @@ beq-eq true false e = absurd (false≢true e)
 beq-eq false true e = absurd (false≢true e)
 beq-eq false false e = refl
 
-above : (n : ℕ) (d e : ℤ) → 0 < suc n * up d * down e
-above n d e = mul-pos (mul-pos (zero-lt-suc n) (up-pos d)) (down-pos e)
-
 -- equal doubles are the same, or two zeros
 equal-doubles : (x y : Float) → T (fits binary64 x) → T (fits binary64 y) → eq x y ≡ true → (x ≡ y) ⊎ ((isZero x ≡ true) × (isZero y ≡ true))
 unfolding eq
@@ -131,12 +126,12 @@ equal-doubles (fin a m e) (inf b) p q h = absurd (false≢true h)
 equal-doubles (fin a zero e) (fin b zero d) p q h = inr (refl, refl)
 equal-doubles (fin a zero e) (fin b (suc n) d) p q h =
     let k = eqb-true (zero * up e * down d) (suc n * up d * down e) (and-1 (eqb (zero * up e * down d) (suc n * up d * down e)) (Bool·beq a b || eqb (zero * up e * down d) 0) h) in
-    absurd (omega (arith, k, above n d e))
+    absurd (omega (arith, k, product-pos n d e))
 equal-doubles (fin a (suc m) e) (fin b zero d) p q h =
     let k = eqb-true (suc m * up e * down d) (zero * up d * down e) (and-1 (eqb (suc m * up e * down d) (zero * up d * down e)) (Bool·beq a b || eqb (suc m * up e * down d) 0) h) in
-    absurd (omega (arith, k, above m e d))
+    absurd (omega (arith, k, product-pos m e d))
 equal-doubles (fin a (suc m) e) (fin b (suc n) d) p q h =
-    let nz : eqb (suc m * up e * down d) 0 ≡ false = ne-eqb (suc m * up e * down d) 0 (λ z. omega (arith, z, above m e d)) in
+    let nz : eqb (suc m * up e * down d) 0 ≡ false = ne-eqb (suc m * up e * down d) 0 (λ z. omega (arith, z, product-pos m e d)) in
     let s : a ≡ b = beq-eq a b (or-left (Bool·beq a b) (eqb (suc m * up e * down d) 0) nz (and-2 (eqb (suc m * up e * down d) (suc n * up d * down e)) (Bool·beq a b || eqb (suc m * up e * down d) 0) h)) in
     inl (same-double binary64 (fin a (suc m) e) (fin b (suc n) d) p q s h)
 

@@ -1,6 +1,6 @@
 -- A step marks its tie by its search alone: document 01's tied step. SE99's first test makes no search, and phase two reports no tie.
-use mathlib.Core.Path.{_≡_, refl}
-use mathlib.Core.Bool.{Bool, true, false}
+use mathlib.Core.Path.{_≡_}
+use mathlib.Core.Bool.{true, false}
 use Prim.Native.Nat.{ℕ}
 use lib.Ieee.{Float}
 use Rattle.matrix.specs.Search.{largest}

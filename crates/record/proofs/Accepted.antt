@@ -2,20 +2,19 @@
 use mathlib.Core.Path.{_≡_, refl, _∙_}
 use mathlib.Core.List.{List}
 use mathlib.Core.Bool.{true, not, _&&_}
-use Prim.Native.Nat.{ℕ, _*_, _/_, _%_, _≤_, _<_}
+use Prim.Native.Nat.{ℕ, _*_, _≤_, _<_}
 use native.Mathlib.Omega.{arith}
 use lib.ListN.{length, getD}
-use lib.Dec.{eqb, leb, ltb}
-use lib.Ieee.{Float, nan}
+use lib.Dec.{eqb, leb}
+use lib.Ieee.{nan}
 use lib.Ieee.Scale.{finite}
-use borrow.Author.Tests.{not-false, eqb-true, leb-true, ltb-false}
-use Rattle.arithmetic.specs.First.{first-is}
+use borrow.Author.Tests.{not-false, eqb-true, leb-true}
 use Rattle.arithmetic.specs.Order.{and-1, and-2}
 use Rattle.arithmetic.specs.Outcome.{_then_, refuse-complete}
-use Rattle.arithmetic.specs.declared.outcome.Outcome.the-variants.{MalformedRecord, UnknownMethod, MatrixLength, NotFinite}
+use Rattle.arithmetic.specs.declared.outcome.Outcome.the-variants.{MalformedRecord, UnknownMethod, MatrixLength}
 use Rattle.matrix.specs.Matrix.{Square}
-use Rattle.matrix.specs.Checks.{check-size, check-finite, check-symmetric, notFinite, firstNotFinite}
-use Rattle.matrix.proofs.CheckLaws.{Accepted, both-accepted, size-accepted}
+use Rattle.matrix.specs.Checks.{check-size, check-finite, check-symmetric}
+use Rattle.matrix.proofs.CheckLaws.{Accepted, both-accepted, size-accepted, finite-accepted}
 use Rattle.methods.specs.Calls.{check-method}
 use Rattle.record.specs.MatrixRecord.{sizeOf, methodOf, entriesOf, matrixOf, well-formed, check-record, check-entries, length-checks, byte-checks, record-checks}
 use Rattle.record.proofs.Fields.{record-accepted}
@@ -28,12 +27,6 @@ method-accepted number h =
 
 entries-length : (n len : ℕ) → Accepted (check-entries n len) → len ≡ 8 * (n * n)
 entries-length n len h = eqb-true len (8 * (n * n)) (not-false (eqb len (8 * (n * n))) (refuse-complete (not (eqb len (8 * (n * n)))) MatrixLength refl (h .is)))
-
-pub finite-accepted : (n : ℕ) (m : List Float) → Accepted (check-finite n m) → (k : ℕ) → k < length m → finite (getD m k nan) ≡ true
-finite-accepted n m h k p =
-    let f = firstNotFinite m in
-    let q : length m ≤ f = ltb-false f (length m) (refuse-complete (ltb f (length m)) (NotFinite (f / n) (f % n)) refl (h .is)) in
-    not-false (finite (getD m k nan)) (first-is (notFinite m) (length m) .good k (omega arith) (omega arith))
 
 -- 1, 2, 3 and 4
 pub record Lengths (b : List ℕ) : Type 0 where

@@ -2,7 +2,7 @@
 use mathlib.Core.Path.{_≡_, refl}
 use mathlib.Core.Logic.{_⊎_, inl, inr}
 use mathlib.Core.List.{List}
-use mathlib.Core.Bool.{Bool, true, false, not, _&&_, _||_, cond}
+use mathlib.Core.Bool.{Bool, true, false, not, _&&_, _||_}
 use Prim.Native.Nat.{ℕ, _*_, _/_, _%_, _≤_}
 use native.Mathlib.Omega.{arith}
 use borrow.Author.Tests.{eqb-false}
@@ -13,6 +13,7 @@ use Rattle.arithmetic.specs.Outcome.{number, complete, refuse, _then_}
 use Rattle.arithmetic.specs.declared.outcome.Outcome.{Outcome}
 use Rattle.arithmetic.specs.declared.outcome.Outcome.the-variants.{MalformedRecord, UnknownMethod, SizeOutOfRange, MatrixLength, NotFinite, Unsymmetric}
 use Rattle.matrix.specs.Checks.{check-size, check-finite, check-symmetric, firstNotFinite, firstUnsymmetric}
+use Rattle.matrix.proofs.CheckLaws.{then-keeps, refuse-keeps}
 use Rattle.methods.specs.Result.{outcomeOf}
 use Rattle.methods.specs.Gmw81 as gmw
 use Rattle.methods.specs.Gmw81.{mod-cholesky-gmw81}
@@ -54,15 +55,10 @@ record Early (o : Outcome) : Type 0 where
   number-is : number o ≤ 8
 
 check-early : (bad : Bool) (refusal : Outcome) → T (leb (number refusal) 8) → Early (refuse bad refusal)
-check-early true refusal h = record { number-is = leb→le (number refusal) 8 h }
-check-early false refusal h = record { number-is = omega arith }
+check-early bad refusal h = refuse-keeps Early bad refusal (record { number-is = omega arith }) (λ _. record { number-is = leb→le (number refusal) 8 h })
 
 then-early : {o rest : Outcome} → Early o → Early rest → Early (o then rest)
-then-early {o} {rest} h k = go (complete o)
-  where
-    go : (t : Bool) → Early (cond t rest o)
-    go true = k
-    go false = h
+then-early {o} {rest} h k = then-keeps Early o rest h (λ _. k)
 
 checks-early : (b : List ℕ) → Early (record-checks b)
 unfolding record-checks length-checks

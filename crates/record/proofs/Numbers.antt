@@ -1,7 +1,7 @@
 -- Numbers read from bytes, and the patterns of finite doubles.
 use mathlib.Core.Path.{_≡_, refl}
 use mathlib.Core.List.{List, [], _∷_}
-use mathlib.Core.Bool.{Bool, true, false, not, cond, false≢true}
+use mathlib.Core.Bool.{Bool, true, false, not, cond}
 use Prim.Native.Nat.{ℕ, zero, suc, _+_, _-_, _*_, _/_, _%_, _^_, _≤_, _<_}
 use native.Mathlib.Nat.{lt-of-lt-of-le, one-le-pow, pow-le-pow-right}
 use native.Mathlib.Numerals.{add-one}
@@ -9,9 +9,10 @@ use native.Mathlib.Omega.{arith}
 use lib.ListN.{length, getD, take, drop}
 use lib.Seq.{drop-cons, getD-drop}
 use lib.Dec.{T, eqb, leb}
-use lib.Ieee.{Float, nan, inf, fin, binary64, ofBits, nanBits, ofFields, odd, isNan, top, hid}
+use lib.Ieee.{nan, inf, binary64, ofBits, nanBits, ofFields, odd, top, hid}
 use lib.Ieee.Bits.{nanBits-is}
 use lib.Ieee.Scale.{finite}
+use Rattle.arithmetic.specs.Order.{finite-not-nan}
 use Rattle.record.specs.Bytes.{number}
 
 -- ---- the bytes from a position on
@@ -67,11 +68,5 @@ pub bits-finite : (v : ℕ) → finite (ofBits binary64 v) ≡ not (eqb (v % 0x8
 unfolding ofBits
 bits-finite v = fields-finite (leb (top binary64) v) (v % top binary64 / hid binary64) (v % hid binary64)
 
-finite-no-nan : (x : Float) → finite x ≡ true → T (not (isNan x))
-unfolding isNan
-finite-no-nan nan e = absurd (false≢true e)
-finite-no-nan (inf s) e = tt
-finite-no-nan (fin s m e) h = tt
-
 pub bits-no-nan : (v : ℕ) → finite (ofBits binary64 v) ≡ true → T (not (nanBits binary64 v))
-bits-no-nan v e = rw nanBits-is (finite-no-nan (ofBits binary64 v) e)
+bits-no-nan v e = rw nanBits-is (finite-not-nan (ofBits binary64 v) e)

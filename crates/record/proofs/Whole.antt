@@ -2,16 +2,16 @@
 use mathlib.Core.Path.{_≡_, refl, sym, ap, _∙_}
 use mathlib.Core.List.{List, []}
 use mathlib.Core.Bool.{true, false, false≢true}
-use Prim.Native.Nat.{ℕ, _*_, _≤_, _<_}
+use Prim.Native.Nat.{ℕ, _*_, _≤_}
 use native.Mathlib.Omega.{arith}
-use borrow.Author.Tests.{le-ltb, le-leb, eq-eqb, ne-eqb, eqb-true}
+use borrow.Author.Tests.{le-leb, eq-eqb, ne-eqb, eqb-true}
 use lib.ListN.{length}
 use lib.Seq.{length-take-le}
 use lib.Dec.{eqb}
 use lib.Ieee.{Float}
 use Rattle.arithmetic.specs.Outcome.{complete, place}
-use Rattle.matrix.specs.Checks.{check-size, check-matrix, check-buffer, check-finite, check-symmetric}
-use Rattle.matrix.proofs.CheckLaws.{Accepted, both-accepted, goes-on}
+use Rattle.matrix.specs.Checks.{check-finite, check-symmetric}
+use Rattle.matrix.proofs.CheckLaws.{Accepted, both-accepted, goes-on, size-passes, matrix-passes, buffer-passes}
 use Rattle.matrix.proofs.Bijection.{is, holds, fails}
 use Rattle.methods.specs.Result.{Result}
 use Rattle.methods.specs.Calls as calls
@@ -28,15 +28,6 @@ use Rattle.record.proofs.Over.{length-over}
 use Rattle.record.proofs.SoundFits.{result-fits, answer-length-at-most}
 
 -- ---- the checks on bytes pass: 8 is left
-size-passes : (n : ℕ) → 0 < n → n ≤ 48 → Accepted (check-size n)
-size-passes n some small = record { is = rw (ne-eqb n 0 (λ e. omega arith), le-ltb 48 n small) }
-
-matrix-passes : (n len : ℕ) → len ≡ n * n → Accepted (check-matrix n len)
-matrix-passes n len e = record { is = rw (eq-eqb len (n * n) e) }
-
-buffer-passes : (wanted len : ℕ) → len ≡ wanted → Accepted (check-buffer wanted len)
-buffer-passes wanted len e = record { is = rw (eq-eqb len wanted e) }
-
 method-passes : (number : ℕ) → 1 ≤ number → number ≤ 3 → Accepted (check-method number)
 method-passes number low high = record { is = rw (le-leb 1 number low, le-leb number 3 high) }
 

@@ -20,10 +20,10 @@ use Rattle.methods.specs.declared.schnabel_eskow.Variant.{Variant}
 use Rattle.methods.specs.declared.schnabel_eskow.Variant.the-variants.{Se90, Se99}
 use Rattle.methods.specs.declared.schnabel_eskow.Last.{Last}
 use Rattle.methods.specs.declared.schnabel_eskow.Last.the-variants.{One, Pair}
+use Rattle.methods.proofs.SeRuns.{Leaves, KeptInPhaseOne, KeptInPhaseTwo, run-keeps}
 use Rattle.load_order.proofs.Picks.{clash}
 use Rattle.results.specs.Results.{Amounts, AtLeast}
 use Rattle.results.proofs.Maximum.{at-least-self, max-left}
-use Rattle.results.proofs.SeRuns.{Leaves, KeptInPhaseOne, KeptInPhaseTwo, run-keeps}
 use Rattle.results.proofs.SeTests.{factorize-never, begin-never, normAt, amountAt, step-tested, one-tested, pair-tested}
 use Rattle.results.proofs.AmountsLists.{zeros-amounts, set-amounts, reorder-amounts, filled-amounts}
 use Rattle.results.proofs.AmountsLast.{one-not-negative, last-stays}

@@ -1,7 +1,6 @@
 pub mod Maximum
 pub mod Difference
 pub mod Marks
-pub mod SeRuns
 pub mod SeTests
 pub mod BoundsGmw81
 pub mod AmountsLists

@@ -17,9 +17,9 @@ use Rattle.methods.specs.declared.schnabel_eskow.Variant.{Variant}
 use Rattle.methods.specs.declared.schnabel_eskow.Last.{Last}
 use Rattle.methods.specs.declared.schnabel_eskow.Last.the-variants.{One, Pair}
 use Rattle.methods.proofs.FiniteEntries.{FiniteEntries, pivot-finite}
+use Rattle.methods.proofs.SeRuns.{KeptInPhaseOne, KeptInPhaseTwo, run-keeps}
 use Rattle.load_order.specs.LoadOrder.{Accepted}
 use Rattle.results.specs.Results.{LowerFactor}
-use Rattle.results.proofs.SeRuns.{KeptInPhaseOne, KeptInPhaseTwo, run-keeps}
 use Rattle.results.proofs.SeTests.{factorize-never, begin-never, amountAt, addedAt, step-tested, one₁, one-tested, pair₁, pair₂, pair₃, pair₄, pair-tested}
 use Rattle.results.proofs.LowerFinite.{put-finite, outside-put, outside-self, outside-eliminate, block-finite}
 use Rattle.results.proofs.LowerTriangle.{triangle-lower, handed-lower}

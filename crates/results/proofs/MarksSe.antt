@@ -8,9 +8,9 @@ use Rattle.methods.specs.Se.{Run, start, pivot, factorize, begin, phaseTwoStepA
 use Rattle.methods.specs.declared.schnabel_eskow.Tolerances.{Tolerances}
 use Rattle.methods.specs.declared.schnabel_eskow.Variant.{Variant}
 use Rattle.methods.proofs.SeLaws.{Below, never-below, mark-below}
+use Rattle.methods.proofs.SeRuns.{KeptInPhaseOne, KeptInPhaseTwo, run-keeps}
 use Rattle.results.specs.Results.{MarksBelow}
 use Rattle.results.proofs.Marks.{handed-marks}
-use Rattle.results.proofs.SeRuns.{KeptInPhaseOne, KeptInPhaseTwo, run-keeps}
 
 record Steps (n : ℕ) (s : Run) : Type 0 where
   tied : Below n (s .tied)

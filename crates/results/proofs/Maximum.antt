@@ -11,20 +11,12 @@ use lib.Ieee.Fits.{round-is, down-pos}
 use lib.Ieee.Order.{round-mono}
 use lib.Pow.{pow-pos}
 use Rattle.arithmetic.specs.Double.{one, epsilon, _⊗_, max}
-use Rattle.arithmetic.specs.Order.{lt-irreflexive, lt-transitive, lt-cotransitive, eq-symmetric, eq-not-lt}
+use Rattle.arithmetic.specs.Order.{or-1, or-2, lt-irreflexive, lt-transitive, lt-cotransitive, eq-symmetric, eq-not-lt}
 use Rattle.matrix.proofs.Bijection.{Is, is, holds, fails, not-holds}
 use Rattle.results.specs.Results.{AtLeast}
 
 pub at-least-self : (x : Float) → isNan x ≡ false → AtLeast x x
 at-least-self x h = record { number = h; not-less = lt-irreflexive x }
-
-pub or-first : (a b : Bool) → (a || b) ≡ false → a ≡ false
-or-first true b h = h
-or-first false b h = refl
-
-or-second : (a b : Bool) → (a || b) ≡ false → b ≡ false
-or-second true b h = absurd (true≢false h)
-or-second false b h = h
 
 pub lt-right-number : (x y : Float) → lt x y ≡ true → isNan y ≡ false
 unfolding lt isNan
@@ -49,8 +41,8 @@ max-right w u v h = go (is (lt u v || isNan u))
     go : Is (lt u v || isNan u) → AtLeast w (max u v)
     go (holds e) = rw e h
     go (fails e) = rw e (record {
-      number = or-second (lt u v) (isNan u) e;
-      not-less = not-holds (lt u w) (λ k. false≢true (sym (h .not-less) ∙ lt-cotransitive u v w (h .number) k (or-first (lt u v) (isNan u) e)));
+      number = or-2 (lt u v) (isNan u) e;
+      not-less = not-holds (lt u w) (λ k. false≢true (sym (h .not-less) ∙ lt-cotransitive u v w (h .number) k (or-1 (lt u v) (isNan u) e)));
     })
 
 pub max-left : (w u v : Float) → AtLeast w u → AtLeast w (max u v)

@@ -12,7 +12,8 @@ use Rattle.methods.specs.Se.{Run, state, leavesBefore, leave, stepAt, phaseOneS
 use Rattle.methods.specs.declared.schnabel_eskow.Progress.{Progress}
 use Rattle.methods.specs.declared.schnabel_eskow.Tolerances.{Tolerances}
 use Rattle.methods.specs.declared.schnabel_eskow.Variant.{Variant}
-use Rattle.methods.proofs.SeLaws.{diagonal-pick, phaseOneStep-is, inPhaseOne-is}
+use Rattle.methods.proofs.Pivots.{diagonal-pick}
+use Rattle.methods.proofs.SeLaws.{phaseOneStep-is, inPhaseOne-is}
 use Rattle.phase_one.proofs.phase_one_step.Statement.{statement}
 use Rattle.phase_one.proofs.phase_one_step.Tie as tie
 
@@ -85,7 +86,7 @@ step-at-requires : tie.Need-step-at-requires
 step-at-requires c κs =
     let c8 = c .before .before .before .before .before .before .before .before in
     let c16 = c8 .before .before .before .before .before .before .before .before in
-    (search needs, (search needs, diagonal-pick _ _ _ _ (c .before .before .before .before .search-diagonal .ensures) (c16 .before .pre .1 .2), search needs))
+    (search needs, (search needs, diagonal-pick _ _ _ _ _ (c .before .before .before .before .search-diagonal .ensures) (c16 .before .pre .1 .2), search needs))
 
 same-length-2 : tie.Need-same-length-2
 same-length-2 c = search needs

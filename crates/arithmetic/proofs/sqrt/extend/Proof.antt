@@ -1,10 +1,9 @@
 use borrow.Author.Needs.{needs}
 use native.Mathlib.Omega.{arith}
-use Prim.Native.Nat.{ℕ, zero, suc, _+_, _-_, _*_, _≤_, _<_}
+use Prim.Native.Nat.{ℕ, _+_, _-_, _*_, _≤_, _<_}
 use mathlib.Core.Path.{_≡_}
-use native.Mathlib.Nat.{zero-lt-suc}
 use Rattle.arithmetic.specs.SqrtStages.{Remainder}
-use Rattle.arithmetic.proofs.WholeRoot.{sq-step}
+use Rattle.arithmetic.proofs.WholeRoot.{sq-step, some-root}
 use Rattle.arithmetic.proofs.Doubling.{Bounds, bounds, total, quotient, modulus}
 use Rattle.arithmetic.proofs.sqrt.extend.Statement.{statement}
 use Rattle.arithmetic.proofs.sqrt.extend.Tie as tie
@@ -13,12 +12,8 @@ known : (c : tie.Start) → Bounds (c .args .s) (c .args .d) (c .args .b)
 known c = bounds _ _ _ (c .pre)
 
 -- where the square is too large, the digit is not 0
-some : (q u : ℕ) → u < q * q → 0 < q
-some zero u h = omega arith
-some (suc q) u h = zero-lt-suc q
-
 digit : (c : tie.Else1) → 0 < quotient (c .before .args .s) (c .before .args .d) (c .before .args .b)
-digit c = some _ _ (c .if1 .left)
+digit c = some-root _ _ (c .if1 .left)
 
 -- one less than r, where the square is too large
 less : (N r u q : ℕ) → 0 < r → N + q * q ≡ r * r + u → u < q * q → q * q ≤ u + (2 * r - 1) → Remainder N (r - 1) (u + (2 * r - 1) - q * q)

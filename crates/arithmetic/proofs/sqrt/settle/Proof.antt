@@ -1,8 +1,8 @@
 use mathlib.Core.Path.{_≡_}
-use Prim.Native.Nat.{ℕ, zero, suc, _+_, _-_, _*_, _^_, _≤_, _<_}
+use Prim.Native.Nat.{ℕ, _+_, _*_, _^_, _≤_, _<_}
 use native.Mathlib.Omega.{arith}
-use native.Mathlib.Nat.{mul-le-mul, lt-of-le-of-lt, le-of-lt, zero-lt-suc}
-use Rattle.arithmetic.proofs.WholeRoot.{sq-step, less-root}
+use native.Mathlib.Nat.{mul-le-mul, le-of-lt}
+use Rattle.arithmetic.proofs.WholeRoot.{sq-step, less-root, some-root}
 use Rattle.arithmetic.proofs.sqrt.settle.Statement.{statement}
 use Rattle.arithmetic.proofs.sqrt.settle.Tie as tie
 
@@ -21,10 +21,6 @@ abbrev μ-loop2 : tie.MeasureT-loop2
 fits : {s : ℕ} → s < 2 ^ 27 → s * s ≤ 2 ^ 54
 fits h = mul-le-mul {n₂ = 2 ^ 27} {m₂ = 2 ^ 27} (le-of-lt h) (le-of-lt h)
 
-some : (s a : ℕ) → a < s * s → 0 < s
-some zero a h = omega arith
-some (suc s) a h = zero-lt-suc s
-
 small : (s d a : ℕ) → s * s + d ≡ a → a < 2 ^ 54 → s < 2 ^ 27
 small s d a e h = less-root {a = s} {b = 2 ^ 27} (omega arith)
 
@@ -38,10 +34,10 @@ mul-loop : tie.Need-mul-loop Inv-loop μ-loop Inv-loop2 μ-loop2
 mul-loop c = omega (arith, fits (c .loop .inv))
 
 sub-s : tie.Need-sub-s Inv-loop μ-loop Inv-loop2 μ-loop2
-sub-s c = some (c .before .loop .s) (c .before .before .args .a) (c .loop-test .taken)
+sub-s c = some-root (c .before .loop .s) (c .before .before .args .a) (c .loop-test .taken)
 
 loop-less : tie.Need-loop-less Inv-loop μ-loop Inv-loop2 μ-loop2
-loop-less c = omega (arith, some (c .before .loop .s) (c .before .before .args .a) (c .loop-test .taken))
+loop-less c = omega (arith, some-root (c .before .loop .s) (c .before .before .args .a) (c .loop-test .taken))
 
 loop-again : tie.Need-loop-again Inv-loop μ-loop Inv-loop2 μ-loop2
 loop-again c = omega arith

@@ -1,6 +1,6 @@
 use borrow.Author.Needs.{needs}
 use borrow.Author.Tests.{lt-ltb, le-ltb}
-use mathlib.Core.Bool.{Bool, true, false, cond, _&&_}
+use mathlib.Core.Bool.{Bool, true, false, cond}
 use mathlib.Core.List.{List}
 use mathlib.Core.Path.{_≡_, refl, _∙_}
 use Prim.Native.Nat.{ℕ, zero, suc, _+_, _-_, _*_, _≤_, _<_}
@@ -9,13 +9,12 @@ use native.Mathlib.Nat.{add-zero, add-suc, suc-mul, le-refl}
 use native.Mathlib.Numerals.{add-one}
 use native.Mathlib.Omega.{arith}
 use lib.Arith.{digits-div, digits-mod}
-use lib.Dec.{ltb}
 use lib.Ieee.{Float}
 use Rattle.arithmetic.specs.First.{First, first, firstFrom, first-is, first-found, first-none}
 use Rattle.arithmetic.specs.declared.outcome.Outcome.the-variants.{Complete, Unsymmetric}
 use Rattle.matrix.specs.Matrix.{cell-lt}
 use Rattle.matrix.specs.Checks.{unsymmetric, firstMismatch, firstUnsymmetric, check-symmetric}
-use Rattle.matrix.proofs.CheckLaws.{mismatch}
+use Rattle.matrix.proofs.CheckLaws.{mismatch, unsymmetric-at}
 use Rattle.matrix.proofs.checks.check_symmetric.Statement.{statement}
 use Rattle.matrix.proofs.checks.check_symmetric.Tie as tie
 
@@ -45,9 +44,6 @@ mismatch-is n m i h =
     })
 
 module _ (n : ℕ) (m : List Float) (i : ℕ) where
-  position : (j : ℕ) → j < n → unsymmetric n m (i * n + j) ≡ (ltb i j && mismatch n m i j)
-  position j h = rw (digits-div i h, digits-mod i h)
-
   -- the rows before i and the first j columns of row i
   before : (j : ℕ) → j ≤ n → ((k : ℕ) → k < i * n → unsymmetric n m k ≡ false) → ((t : ℕ) → i + 1 ≤ t → t < j → mismatch n m i t ≡ false)
       → (k : ℕ) → k < i * n + j → unsymmetric n m k ≡ false
@@ -58,8 +54,8 @@ module _ (n : ℕ) (m : List Float) (i : ℕ) where
     where
       here : (t : ℕ) → t < j → unsymmetric n m (i * n + t) ≡ false
       here t q = elim (decLe t i) [
-        | yes p ↦ position t (omega arith) ∙ rw (le-ltb i t p)
-        | no p ↦ position t (omega arith) ∙ rw (lt-ltb i t (omega arith), row t (omega arith) (omega arith))
+        | yes p ↦ unsymmetric-at n m i t (omega arith) ∙ rw (le-ltb i t p)
+        | no p ↦ unsymmetric-at n m i t (omega arith) ∙ rw (lt-ltb i t (omega arith), row t (omega arith) (omega arith))
       ]
 
   one-more : i < n → ((k : ℕ) → k < i * n → unsymmetric n m k ≡ false) → n ≤ firstMismatch n m i → (k : ℕ) → k < (i + 1) * n → unsymmetric n m k ≡ false
@@ -71,7 +67,7 @@ module _ (n : ℕ) (m : List Float) (i : ℕ) where
   found h rows l =
       let F = mismatch-is n m i h in
       let j = firstMismatch n m i in
-      let u : unsymmetric n m (i * n + j) ≡ true = position j l ∙ rw (lt-ltb i j (omega (arith, F .from)), F .here l) in
+      let u : unsymmetric n m (i * n + j) ≡ true = unsymmetric-at n m i j l ∙ rw (lt-ltb i j (omega (arith, F .from)), F .here l) in
       let e : firstUnsymmetric n m ≡ i * n + j = first-found (unsymmetric n m) (n * n) (i * n + j) (cell-lt n i j h l) u (before j (F .most) rows (F .good)) in
       rw (e, lt-ltb (i * n + j) (n * n) (cell-lt n i j h l), digits-div i l, digits-mod i l)
 

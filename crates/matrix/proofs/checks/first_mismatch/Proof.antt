@@ -1,23 +1,15 @@
 use borrow.Author.Needs.{needs}
 use borrow.Author.Tests.{eq-eqb, ne-eqb}
-use mathlib.Core.Bool.{true, false, not, false≢true}
+use mathlib.Core.Bool.{true, false, not}
 use mathlib.Core.Path.{_≡_, refl, sym, _∙_}
 use Prim.Native.Nat.{_-_, _≤_}
-use lib.Dec.{T}
-use lib.Ieee.{Float, nan, inf, fin, binary64, toBits, isNan}
-use lib.Ieee.Scale.{finite}
+use lib.Ieee.{Float, binary64, toBits}
 use Rattle.arithmetic.specs.First.{firstFrom}
+use Rattle.arithmetic.specs.Order.{finite-not-nan}
 use Rattle.matrix.specs.Checks.{sameBits, firstMismatch}
 use Rattle.matrix.proofs.CheckLaws.{mismatch, search-found, search-turn, search-end}
 use Rattle.matrix.proofs.checks.first_mismatch.Statement.{statement}
 use Rattle.matrix.proofs.checks.first_mismatch.Tie as tie
-
--- what is finite is no NaN
-number : (x : Float) → finite x ≡ true → T (not (isNan x))
-unfolding isNan
-number nan h = absurd (false≢true h)
-number (inf s) h = tt
-number (fin s m e) h = tt
 
 differ : {x y r s : Float} → r ≡ x → s ≡ y → (toBits binary64 r ≡ toBits binary64 s → ⊥) → not (sameBits x y) ≡ true
 differ p q h = rw (← p, ← q, ne-eqb _ _ h)
@@ -41,13 +33,13 @@ get-requires : tie.Need-get-requires Inv-loop μ-loop
 get-requires c κs = search needs
 
 float-to-bits-if1 : tie.Need-float-to-bits-if1 Inv-loop μ-loop
-float-to-bits-if1 c = rw (c .get .ensures) (number _ (c .before .before .before .before .pre .1 .0 _ _ (search needs) (search needs)))
+float-to-bits-if1 c = rw (c .get .ensures) (finite-not-nan _ (c .before .before .before .before .pre .1 .0 _ _ (search needs) (search needs)))
 
 get-requires-2 : tie.Need-get-requires-2 Inv-loop μ-loop
 get-requires-2 c κs = search needs
 
 float-to-bits-if1-2 : tie.Need-float-to-bits-if1-2 Inv-loop μ-loop
-float-to-bits-if1-2 c = rw (c .get2 .ensures) (number _ (c .before .before .before .before .before .pre .1 .0 _ _ (search needs) (search needs)))
+float-to-bits-if1-2 c = rw (c .get2 .ensures) (finite-not-nan _ (c .before .before .before .before .before .pre .1 .0 _ _ (search needs) (search needs)))
 
 returns : tie.Need-returns Inv-loop μ-loop
 unfolding firstMismatch

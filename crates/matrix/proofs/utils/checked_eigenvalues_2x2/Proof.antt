@@ -8,8 +8,7 @@ use Rattle.arithmetic.specs.declared.outcome.Outcome.{Outcome}
 use Rattle.matrix.specs.Eigenvalues.{eigenvalues-2x2}
 use Rattle.matrix.specs.Calls.{eigen-checks, noEigen, checked-eigenvalues-2x2}
 use Rattle.matrix.specs.declared.utils.Eigen.{Eigen}
-use Rattle.matrix.proofs.CheckLaws.{complete-accepted}
-use Rattle.matrix.proofs.CallLaws.{not-complete}
+use Rattle.matrix.proofs.CheckLaws.{complete-accepted, not-complete}
 use Rattle.matrix.proofs.utils.checked_eigenvalues_2x2.Statement.{statement}
 use Rattle.matrix.proofs.utils.checked_eigenvalues_2x2.Tie as tie
 

@@ -8,8 +8,8 @@ use Rattle.arithmetic.specs.declared.outcome.Outcome.{Outcome}
 use Rattle.matrix.specs.Search.{largest}
 use Rattle.matrix.specs.Calls.{search-checks, checked-search}
 use Rattle.matrix.specs.declared.utils.Found.{Found}
-use Rattle.matrix.proofs.CheckLaws.{complete-accepted}
-use Rattle.matrix.proofs.CallLaws.{search-accepted, not-complete}
+use Rattle.matrix.proofs.CheckLaws.{complete-accepted, not-complete}
+use Rattle.matrix.proofs.CallLaws.{search-accepted}
 use Rattle.matrix.proofs.utils.checked_search.Statement.{statement}
 use Rattle.matrix.proofs.utils.checked_search.Tie as tie
 

@@ -1,7 +1,7 @@
 use Rattle.matrix.specs.Checks.{check-finite}
-use Rattle.matrix.proofs.CheckLaws.{Accepted, accepted, refused, goes-on}
+use Rattle.matrix.proofs.CheckLaws.{Accepted, accepted, refused, goes-on, entries-accepted}
 use Rattle.methods.specs.Calls.{length-checks, factor-checks}
-use Rattle.methods.proofs.CallLaws.{Lengths, lengths-accepted, entries-accepted}
+use Rattle.methods.proofs.CallLaws.{Lengths, lengths-accepted}
 use borrow.Author.Needs.{needs}
 use Rattle.modcholesky.proofs.calls.factor_checks.Statement.{statement}
 use Rattle.modcholesky.proofs.calls.factor_checks.Tie as tie

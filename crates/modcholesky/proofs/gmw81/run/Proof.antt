@@ -15,15 +15,11 @@ use Rattle.methods.specs.declared.decomposition.Mark.the-variants.{Never}
 use Rattle.methods.specs.declared.gmw81.Marks.{Marks}
 use Rattle.methods.proofs.FiniteEntries.{FiniteEntries}
 use Rattle.methods.proofs.GmwFinite.{FiniteRun, steps-finite}
-use Rattle.methods.proofs.GmwLaws.{finish-order, steps-rows}
-use Rattle.methods.proofs.Pivots.{Rows}
+use Rattle.methods.proofs.GmwLaws.{finish-order}
+use Rattle.methods.proofs.GmwRuns.{steps-permuted, run-is}
+use Rattle.methods.proofs.Pivots.{Permuted, permuted-below}
 use Rattle.modcholesky.proofs.gmw81.run.Statement.{statement}
 use Rattle.modcholesky.proofs.gmw81.run.Tie as tie
-
-run-is : (n : ℕ) (a : List Float) → run n a
-    ≡ finish n (range 0 n (step n (deltaOf (diagonalMax n a) (offDiagonalMax n a)) (betaOf n (diagonalMax n a) (offDiagonalMax n a))) (start n a))
-unfolding run
-run-is n a = refl
 
 result-is : (n : ℕ) (a : List Float) → mod-cholesky-gmw81 n a ≡ handBack n (run n a .tied) Never (run n a .refused) (run n a .l) (run n a .e) (run n a .p)
 unfolding mod-cholesky-gmw81
@@ -31,8 +27,7 @@ result-is n a = refl
 
 rows : (n : ℕ) (a : List Float) (delta beta : Float) (s₁ s₂ : Run) → s₁ ≡ start n a → s₂ ≡ range 0 n (step n delta beta) s₁ → AllBelow n (s₂ .p)
 rows n a delta beta s₁ s₂ e₁ e₂ =
-    let R : Rows n (s₂ .p) = subst (λ (s : Run). Rows n (s .p)) (sym (e₂ ∙ ap (range 0 n (step n delta beta)) e₁)) (steps-rows n delta beta a) in
-    R .below
+    permuted-below n (s₂ .p) (subst (λ (s : Run). Permuted n (s .p)) (sym (e₂ ∙ ap (range 0 n (step n delta beta)) e₁)) (steps-permuted n delta beta a))
 
 finites : (n : ℕ) (a : List Float) (delta beta : Float) (s₁ s₂ : Run) → FiniteEntries n a → s₁ ≡ start n a → s₂ ≡ range 0 n (step n delta beta) s₁ → s₂ .refused ≡ Never → AllFinite n (s₂ .l)
 finites n a delta beta s₁ s₂ F e₁ e₂ e =

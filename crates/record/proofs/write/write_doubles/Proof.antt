@@ -3,7 +3,7 @@ use mathlib.Core.Path.{_≡_, refl}
 use Prim.Native.Nat.{_+_, _*_, _-_, _≤_}
 use native.Mathlib.Omega.{arith}
 use lib.ListN.{length, drop}
-use Rattle.methods.proofs.Tests.{finite-number}
+use Rattle.arithmetic.specs.Order.{finite-not-nan}
 use Rattle.record.specs.Bytes.{content-of}
 use Rattle.record.specs.Writing.{over}
 use Rattle.record.proofs.WriteLaws.{doubles-turn, doubles-end}
@@ -26,7 +26,7 @@ shared-slice-read-write-number : tie.Need-shared-slice-read-write-number Inv-loo
 shared-slice-read-write-number c = search needs
 
 float-to-bits-write-number : tie.Need-float-to-bits-write-number Inv-loop μ-loop
-float-to-bits-write-number c = rw (finite-number _ (c .before .before .before .before .before .before .pre .1 (c .before .before .before .loop .k) (search needs))) tt
+float-to-bits-write-number c = finite-not-nan _ (c .before .before .before .before .before .before .pre .1 (c .before .before .before .loop .k) (search needs))
 
 write-number-requires : tie.Need-write-number-requires Inv-loop μ-loop
 write-number-requires c κs = search needs

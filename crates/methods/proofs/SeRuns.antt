@@ -1,5 +1,5 @@
 -- What every statement of SE90 and SE99 keeps, the run keeps: the pivots are rows, phase one is left at a row where a test passed,
--- and two rows are left for the pair.
+-- and two rows are left for the pair. So p is a permutation.
 use mathlib.Core.Path.{_≡_, refl, sym, ap, _∙_, subst}
 use mathlib.Core.Bool.{Bool, true, false, cond, _||_}
 use mathlib.Core.Logic.{_⊎_, inl, inr}
@@ -13,20 +13,20 @@ use lib.ListN.{length, getD, set, length-set, length-replicate}
 use lib.Ieee.{Float, nan, lt}
 use Rattle.arithmetic.specs.Double.{plus-zero, one, epsilon, _⊕_, _⊖_, _⊗_, _⊘_, abs}
 use Rattle.arithmetic.specs.Loop.{range, range-none, range-ind}
+use Rattle.arithmetic.specs.Order.{or-1}
 use Rattle.matrix.specs.Matrix.{at}
 use Rattle.matrix.proofs.Bijection.{Is, is, holds, fails}
 use Rattle.methods.specs.Marks.{marked}
 use Rattle.methods.specs.Statements.{diagonalMax, pivotMatrix}
-use Rattle.methods.specs.Se.{Run, start, tmpOf, leavesBefore, leavesAfter, leave, pivot, factorize, stepAt, phaseOneStep, inPhaseOne, phaseOne, rowSum, columnSum, bounds, updateBounds, phaseTwoStepAt, phaseTwoStep, lastPair, lastOne, begin, pairs, phaseTwoFrom, phaseTwoAfter, run}
+use Rattle.methods.specs.Se.{Run, start, tmpOf, leavesBefore, leavesAfter, leave, pivot, factorize, stepAt, phaseOneStep, inPhaseOne, phaseOne, rowSum, columnSum, bounds, updateBounds, phaseTwoStepAt, phaseTwoStep, pairOf, oneOf, addPair, addOne, lastPair, lastOne, begin, pairs, phaseTwoFrom, phaseTwoAfter, phaseTwo, run}
 use Rattle.methods.specs.declared.decomposition.Mark.{Mark}
 use Rattle.methods.specs.declared.decomposition.Mark.the-variants.{Never, Step}
 use Rattle.methods.specs.declared.schnabel_eskow.Tolerances.{Tolerances}
 use Rattle.methods.specs.declared.schnabel_eskow.Variant.{Variant}
 use Rattle.methods.proofs.Moved.{length-pivot}
-use Rattle.methods.proofs.Pivots.{pick-below}
+use Rattle.methods.proofs.Pivots.{pick-below, Permuted, identity-permuted, pivot-permuted}
 use Rattle.methods.proofs.Refused.{unmarked-never}
-use Rattle.methods.proofs.SeLaws.{cond-keeps, bounds-pick, stepAt-is, phaseOneStep-is, inPhaseOne-is, phaseOne-is, phaseTwoStep-is, pairs-is, phaseTwoFrom-is, after-never, after-step, run-is, Below, phaseOne-below}
-use Rattle.results.proofs.Maximum.{or-first}
+use Rattle.methods.proofs.SeLaws.{cond-keeps, bounds-pick, stepAt-is, phaseOneStep-is, inPhaseOne-is, phaseOne-is, phaseTwoStep-is, pairs-is, phaseTwoFrom-is, after-never, after-step, run-is, Below, never-below, mark-below}
 
 -- the test before the search, or the one after it
 abbrev pub Leaves : Variant → Tolerances → Float → ℕ → ℕ → List Float → Type 0
@@ -68,15 +68,27 @@ module _ (v : Variant) (t : Tolerances) (gamma : Float) (n : ℕ) (P : Run → T
       go (holds e) = rw (phaseOneStep-is v t gamma n j s, e) (K .by-leave j s h m (inl e) b)
       go (fails e) = rw (phaseOneStep-is v t gamma n j s, e) (stepAt-keeps j _ _ s h (pick-below false n j (s .l) h) m b)
 
-  inPhaseOne-keeps : (j : ℕ) (s : Run) → j < n → P s → P (inPhaseOne v t gamma n j s)
+  pub inPhaseOne-keeps : (j : ℕ) (s : Run) → j < n → P s → P (inPhaseOne v t gamma n j s)
   inPhaseOne-keeps j s h b = go (is (marked (s .phase2) || marked (s .refused)))
     where
       go : Is (marked (s .phase2) || marked (s .refused)) → P (inPhaseOne v t gamma n j s)
       go (holds e) = rw (inPhaseOne-is v t gamma n j s, e) b
-      go (fails e) = rw (inPhaseOne-is v t gamma n j s, e) (phaseOneStep-keeps j s h (unmarked-never (s .phase2) (or-first (marked (s .phase2)) (marked (s .refused)) e)) b)
+      go (fails e) = rw (inPhaseOne-is v t gamma n j s, e) (phaseOneStep-keeps j s h (unmarked-never (s .phase2) (or-1 (marked (s .phase2)) (marked (s .refused)) e)) b)
 
-  phaseOne-keeps : (s : Run) → P s → P (phaseOne v t gamma n s)
+  pub phaseOne-keeps : (s : Run) → P s → P (phaseOne v t gamma n s)
   phaseOne-keeps s b = subst P (sym (phaseOne-is v t gamma n s)) (range-ind (λ i x. P x) 0 n (inPhaseOne v t gamma n) s (omega arith) b (λ i p q x h. inPhaseOne-keeps i x q h))
+
+-- it is left at a step below n
+below-one : (v : Variant) (t : Tolerances) (gamma : Float) (n : ℕ) → KeptInPhaseOne v t gamma n (λ s. Below n (s .phase2))
+unfolding pivot factorize
+below-one v t gamma n = record { by-leave = λ j s h m w b. mark-below n j (s .phase2) true h b; by-pivot = λ j k tie s h hk m b. b; by-factorize = λ j s h m b. b }
+
+below-start : (n : ℕ) (a : List Float) → Below n (start n a .phase2)
+unfolding start
+below-start n a = never-below n
+
+pub phaseOne-below : (v : Variant) (t : Tolerances) (gamma : Float) (n : ℕ) (a : List Float) → Below n (phaseOne v t gamma n (start n a) .phase2)
+phaseOne-below v t gamma n a = phaseOne-keeps v t gamma n (λ s. Below n (s .phase2)) (below-one v t gamma n) (start n a) (below-start n a)
 
 -- ---- g has n elements throughout
 length-written : {A : Type 0} (a b : ℕ) (f : ℕ → List A → A) (l : List A) → a ≤ b → length (range a b (λ i h. set h i (f i h)) l) ≡ length l
@@ -141,15 +153,40 @@ module _ (v : Variant) (t : Tolerances) (gamma : Float) (n : ℕ) (P Q : Run →
       go (holds e) = rw e (K .by-one s (omega arith) (m ∙ ap Step (eqb-true k (n - 1) e)) b)
       go (fails e) = rw e (pairs-keep k s h (omega (arith, eqb-false k (n - 1) e)) (record { sized = z; kept = K .after-one s b }))
 
-  phaseTwo-keeps : (m : Mark) (s : Run) → s .phase2 ≡ m → Below n m → Sized n s → P s → Q (phaseTwoAfter v t gamma n m s)
-  phaseTwo-keeps Never s e h z b = subst Q (sym (after-never v t gamma n Never s refl)) (K .after-one s b)
-  phaseTwo-keeps (Step k) s e h z b = subst Q (sym (after-step v t gamma n (Step k) k s refl)) (from-keeps k s (h k refl) e z b)
+  after-keeps : (m : Mark) (s : Run) → s .phase2 ≡ m → Below n m → Sized n s → P s → Q (phaseTwoAfter v t gamma n m s)
+  after-keeps Never s e h z b = subst Q (sym (after-never v t gamma n Never s refl)) (K .after-one s b)
+  after-keeps (Step k) s e h z b = subst Q (sym (after-step v t gamma n (Step k) k s refl)) (from-keeps k s (h k refl) e z b)
+
+-- after phase one from the start
+pub phaseTwo-keeps : (v : Variant) (t : Tolerances) (gamma : Float) (n : ℕ) (a : List Float) (P Q : Run → Type 0) → KeptInPhaseTwo v t gamma n P Q
+    → let s = phaseOne v t gamma n (start n a) in P s → Q (phaseTwo v t gamma n s)
+phaseTwo-keeps v t gamma n a P Q K b =
+    let s = phaseOne v t gamma n (start n a) in
+    after-keeps v t gamma n P Q K (s .phase2) s refl (phaseOne-below v t gamma n a) (phaseOne-keeps v t gamma n (Sized n) (sized-one v t gamma n) (start n a) (sized-start n a)) b
 
 -- ---- a whole run
 pub run-keeps : (v : Variant) (t : Tolerances) (n : ℕ) (a : List Float) (P Q : Run → Type 0)
     → KeptInPhaseOne v t (diagonalMax n a) n P → KeptInPhaseTwo v t (diagonalMax n a) n P Q → P (start n a) → Q (run v t n a)
-run-keeps v t n a P Q one two b =
-    let gamma = diagonalMax n a in
-    let s = phaseOne v t gamma n (start n a) in
-    subst Q (sym (run-is v t n a)) (phaseTwo-keeps v t gamma n P Q two (s .phase2) s refl (phaseOne-below v t gamma n a)
-    (phaseOne-keeps v t gamma n (Sized n) (sized-one v t gamma n) (start n a) (sized-start n a)) (phaseOne-keeps v t gamma n P one (start n a) b))
+run-keeps v t n a P Q one two b = subst Q (sym (run-is v t n a)) (phaseTwo-keeps v t (diagonalMax n a) n a P Q two (phaseOne-keeps v t (diagonalMax n a) n P one (start n a) b))
+
+-- ---- p is a permutation throughout
+permuted-one : (v : Variant) (t : Tolerances) (gamma : Float) (n : ℕ) → KeptInPhaseOne v t gamma n (λ s. Permuted n (s .p))
+unfolding pivot factorize
+permuted-one v t gamma n = record { by-leave = λ j s h m w P. P; by-pivot = λ j k tie s h hk m P. pivot-permuted n j k (s .p) hk P; by-factorize = λ j s h m P. P }
+
+permuted-two : (v : Variant) (t : Tolerances) (gamma : Float) (n : ℕ) → KeptInPhaseTwo v t gamma n (λ s. Permuted n (s .p)) (λ s. Permuted n (s .p))
+unfolding begin phaseTwoStepAt lastPair lastOne pairOf oneOf addPair addOne
+permuted-two v t gamma n = record {
+  after-one = λ s P. P;
+  by-begin = λ k s h P. P;
+  by-step = λ j k s h hk P. pivot-permuted n j k (s .p) hk P;
+  by-pair = λ s h P. P;
+  by-one = λ s h m P. P;
+}
+
+permuted-start : (n : ℕ) (a : List Float) → Permuted n (start n a .p)
+unfolding start
+permuted-start n a = identity-permuted n
+
+pub run-permuted : (v : Variant) (t : Tolerances) (n : ℕ) (a : List Float) → Permuted n (run v t n a .p)
+run-permuted v t n a = run-keeps v t n a (λ s. Permuted n (s .p)) (λ s. Permuted n (s .p)) (permuted-one v t (diagonalMax n a) n) (permuted-two v t (diagonalMax n a) n) (permuted-start n a)
