@@ -2,7 +2,7 @@
 use mathlib.Core.Path.{_≡_, refl, sym, _∙_}
 use mathlib.Core.List.{List}
 use mathlib.Core.Bool.{true}
-use Prim.Native.Nat.{ℕ, suc, _+_, _-_, _<_}
+use Prim.Native.Nat.{ℕ, suc, _+_, _-_, _≤_, _<_}
 use native.Mathlib.Decide.{ℕ-discrete, decLt}
 use native.Mathlib.Omega.{arith}
 use lib.Ieee.{Float, ofBits}
@@ -11,7 +11,7 @@ use Rattle.arithmetic.specs.Double.{plus-zero, one}
 use Rattle.arithmetic.specs.Loop.{range, range-ind}
 use Rattle.matrix.specs.Checks.{AllFinite}
 use Rattle.matrix.specs.Matrix.{at, put}
-use Rattle.matrix.proofs.EntryLaws.{Entries}
+use Rattle.matrix.proofs.EntryLaws.{Entries, same-entries}
 use Rattle.matrix.proofs.SwapLaws.{transpose, transpose-lt}
 use Rattle.methods.specs.Gmw81.{unitLower}
 use Rattle.methods.specs.Statements.{pivotMatrix, clearAfter, lowerTriangle}
@@ -84,6 +84,16 @@ triangle-cleared n m h = range-ind (Cleared n m) 0 (n - 1) (clearAfter n) m (ome
 
 pub triangle-above : (n : ℕ) (m : List Float) → Entries n m → (x y : ℕ) → x < y → y < n → at n (lowerTriangle n m) x y ≡ plus-zero
 triangle-above n m h x y p q = triangle-cleared n m h .zero-above x y (omega arith) p q
+
+-- what stands above the diagonal doesn't matter
+pub triangle-same : (n : ℕ) (A B : List Float) → Entries n A → Entries n B → ((x y : ℕ) → x < n → y ≤ x → at n A x y ≡ at n B x y) → lowerTriangle n A ≡ lowerTriangle n B
+triangle-same n A B a b e =
+    let C = triangle-cleared n A a in
+    let D = triangle-cleared n B b in
+    same-entries n (lowerTriangle n A) (lowerTriangle n B) (C .entries) (D .entries) (λ x y px py. elim (decLt x y) [
+      | yes p ↦ C .zero-above x y (omega arith) p py ∙ sym (D .zero-above x y (omega arith) p py)
+      | no p ↦ C .rest x y px py (λ u w. p w) ∙ e x y px (omega arith) ∙ sym (D .rest x y px py (λ u w. p w))
+    ])
 
 pub triangle-finite : (n : ℕ) (m : List Float) → FiniteEntries n m → FiniteEntries n (lowerTriangle n m)
 triangle-finite n m F =

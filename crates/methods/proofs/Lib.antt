@@ -2,6 +2,7 @@ pub mod Tests
 pub mod Magnitudes
 pub mod Moved
 pub mod Eliminated
+pub mod Mirrored
 pub mod Rows
 pub mod PhaseOne
 pub mod Reordered
@@ -23,4 +24,3 @@ pub mod GmwFinite
 pub mod Answers
 pub mod SeLaws
 pub mod SeRuns
-pub mod Symmetric

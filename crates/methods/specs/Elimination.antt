@@ -1,33 +1,57 @@
--- Symmetric matrices, and what stands where while one of them is eliminated row by row.
+-- Symmetric matrices, and what stands where while one of them is eliminated row by row, on and below the diagonal.
 use mathlib.Core.Path.{_≡_}
 use mathlib.Core.List.{List}
-use mathlib.Core.Bool.{Bool}
-use Prim.Native.Nat.{ℕ, _+_, _*_, _≤_, _<_}
+use mathlib.Core.Bool.{Bool, cond}
+use Prim.Native.Nat.{ℕ, _+_, _*_, _/_, _%_, _≤_, _<_}
 use lib.ListN.{length, getD}
+use lib.Dec.{leb}
 use lib.Ieee.{Float, nan}
 use lib.Ieee.Scale.{finite}
 use Rattle.arithmetic.specs.Double.{_⊖_, _⊗_}
-use Rattle.matrix.specs.Matrix.{at}
+use Rattle.arithmetic.specs.Loop.{range}
+use Rattle.matrix.specs.Matrix.{at, put}
+use Rattle.matrix.specs.Table.{table}
 use Rattle.methods.specs.Statements.{all}
 
 pub record Symmetric (n : ℕ) (m : List Float) : Type 0 where
   pub same : (x y : ℕ) → x < n → y < n → at n m x y ≡ at n m y x
 
--- l is m with f at the places a to k - 1 of row i; ok: whether these are finite
-pub record RowWritten (n i a : ℕ) (f : ℕ → Float) (m : List Float) (k : ℕ) (l : List Float) (ok : Bool) : Type 0 where
+-- the symmetric matrix whose entries on and below the diagonal are those of m
+unfoldable pub mirrored : ℕ → List Float → List Float
+unfolding table
+mirrored n m = table (n * n) (λ k. cond (leb (k % n) (k / n)) (at n m (k / n) (k % n)) (at n m (k % n) (k / n)))
+
+-- row i after i becomes column i
+unfoldable pub mirrorRow : ℕ → ℕ → List Float → List Float
+unfolding range
+mirrorRow n i l = range (i + 1) n (λ k m. put n m i k (at n m k i)) l
+
+-- column q from row j to row q - 1 becomes row q
+unfoldable pub mirrorColumn : ℕ → ℕ → ℕ → List Float → List Float
+unfolding range
+mirrorColumn n j q l = range j q (λ i m. put n m i q (at n m q i)) l
+
+-- l is m with f k at (row k, column k), k from a to b - 1; ok: whether these are finite
+pub record CellsWritten (n a : ℕ) (row column : ℕ → ℕ) (f : ℕ → Float) (m : List Float) (b : ℕ) (l : List Float) (ok : Bool) : Type 0 where
   pub entries : length l ≡ n * n
-  pub done : (y : ℕ) → a ≤ y → y < k → at n l i y ≡ f y
-  pub rest : (x y : ℕ) → x < n → y < n → (x ≡ i → a ≤ y → y < k → ⊥) → at n l x y ≡ at n m x y
-  pub tested : ok ≡ all a k (λ y. finite (f y))
+  pub done : (k : ℕ) → a ≤ k → k < b → at n l (row k) (column k) ≡ f k
+  pub rest : (x y : ℕ) → x < n → y < n → ((k : ℕ) → a ≤ k → k < b → x ≡ row k → y ≡ column k → ⊥) → at n l x y ≡ at n m x y
+  pub tested : ok ≡ all a b (λ k. finite (f k))
+
+-- the places a to b - 1 of row i, and of column j
+abbrev pub RowWritten : ℕ → ℕ → ℕ → (ℕ → Float) → List Float → ℕ → List Float → Bool → Type 0
+RowWritten n i a f m b l ok = CellsWritten n a (λ k. i) (λ k. k) f m b l ok
+
+abbrev pub ColumnWritten : ℕ → ℕ → ℕ → (ℕ → Float) → List Float → ℕ → List Float → Bool → Type 0
+ColumnWritten n j a f m b l ok = CellsWritten n a (λ k. k) (λ k. j) f m b l ok
 
 -- entry (x, y) less the product of two entries of the divided column c
 abbrev pub subtracted : ℕ → List Float → List Float → ℕ → ℕ → Float
 subtracted n m c x y = at n m x y ⊖ getD c x nan ⊗ getD c y nan
 
--- l is m with the elimination done in the rows j + 1 to i - 1, from column j on; ok: whether these are finite after column j
+-- l is m with the products subtracted in the rows j + 1 to i - 1, from column j + 1 to the diagonal; ok: whether what stands there is finite
 pub record RowsEliminated (n j : ℕ) (c m : List Float) (i : ℕ) (l : List Float) (ok : Bool) : Type 0 where
   pub entries : length l ≡ n * n
-  pub column : (x : ℕ) → j < x → x < i → at n l x j ≡ getD c x nan
-  pub done : (x y : ℕ) → j < x → x < i → j < y → y < n → at n l x y ≡ subtracted n m c x y
-  pub rest : (x y : ℕ) → x < n → y < n → (j < x → x < i → j ≤ y → ⊥) → at n l x y ≡ at n m x y
-  pub tested : ok ≡ all (j + 1) i (λ x. all (j + 1) n (λ y. finite (subtracted n m c x y)))
+  pub done : (x y : ℕ) → j < x → x < i → j < y → y ≤ x → at n l x y ≡ subtracted n m c x y
+  pub rest : (x y : ℕ) → x < n → y < n → (j < x → x < i → j < y → y ≤ x → ⊥) → at n l x y ≡ at n m x y
+  pub tested : ok ≡ all (j + 1) i (λ x. all (j + 1) (x + 1) (λ y. finite (subtracted n m c x y)))

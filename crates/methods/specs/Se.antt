@@ -41,6 +41,10 @@ pub record Run : Type 0 where
 abbrev pub state : List Float → List Float → List Float → List ℕ → Progress → Run
 state l e g p r = record { l = l; e = e; g = g; p = p; delta-prev = r .«delta_prev»; tied = r .tied; phase2 = r .phase2; refused = r .refused }
 
+-- the state with +0.0 above the diagonal of l
+abbrev pub lowered : ℕ → Run → Run
+lowered n s = record { l = lowerTriangle n (s .l); e = s .e; g = s .g; p = s .p; delta-prev = s .delta-prev; tied = s .tied; phase2 = s .phase2; refused = s .refused }
+
 unfoldable pub start : ℕ → List Float → Run
 unfolding table
 start n a = record { l = a; e = zeros n; g = zeros n; p = identity n; delta-prev = plus-zero; tied = Never; phase2 = Never; refused = Never }

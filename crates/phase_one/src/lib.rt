@@ -8,7 +8,7 @@ ghost use lib.Ieee.{Float, lt};
 ghost use Rattle.matrix.specs.Matrix.{Square};
 ghost use Rattle.methods.specs.Marks.{mark};
 ghost use Rattle.methods.specs.Statements.{pivotMatrix, pivotList};
-ghost use Rattle.methods.specs.Elimination.{Symmetric};
+ghost use Rattle.methods.specs.Elimination.{mirrored};
 ghost use Rattle.methods.specs.Se.{state, start, foldNext, tmpOf, aiiMax, aiiMin, leavesBefore, leavesAfter, leave, pivot, factorize, stepAt, phaseOneStep, inPhaseOne, phaseOne};
 use arithmetic::double::square;
 use matrix::entries::clear;
@@ -147,13 +147,13 @@ fn leave(r: Progress, j: usize) -> Progress
     }
 }
 
-// The pivot max_idx after j goes to j.
+// The pivot max_idx after j goes to j. From here on l holds a symmetric matrix on and below the diagonal.
 fn pivot(l: &mut [f64], p: &mut [usize], n: usize, j: usize, max_idx: usize)
     requires { ⌜ Square n (now l) ⌝ }
     requires { ⌜ (length (now p) ≡ n) × (j + «max_idx» < n) ⌝ }
-    ensures { λ _. ⌜ (now (l .exit) ≡ pivotMatrix n j «max_idx» (now (l .entry))) × (now (p .exit) ≡ pivotList 0 j «max_idx» (now (p .entry))) ⌝ }
+    ensures { λ _. ⌜ (mirrored n (now (l .exit)) ≡ pivotMatrix n j «max_idx» (mirrored n (now (l .entry)))) × (now (p .exit) ≡ pivotList 0 j «max_idx» (now (p .entry))) ⌝ }
 {
-    statements::pivot_matrix(l, n, j, max_idx);
+    statements::pivot_symmetric(l, n, j, max_idx);
     statements::pivot_order(p, j, max_idx);
 }
 
@@ -170,8 +170,8 @@ fn step_at(
     r: Progress,
 ) -> Progress
     requires { ⌜ Square n (now l) ⌝ }
-    requires { ⌜ (length (now p) ≡ n) × (j + «max_idx» < n) × Symmetric n (now l) ⌝ }
-    ensures { λ q. ⌜ ((e g : List Float) → state (now (l .exit)) e g (now (p .exit)) q ≡ stepAt v t gamma n j «max_idx» tie (state (now (l .entry)) e g (now (p .entry)) r)) ⌝ }
+    requires { ⌜ (length (now p) ≡ n) × (j + «max_idx» < n) ⌝ }
+    ensures { λ q. ⌜ ((e g : List Float) → state (mirrored n (now (l .exit))) e g (now (p .exit)) q ≡ stepAt v t gamma n j «max_idx» tie (state (mirrored n (now (l .entry))) e g (now (p .entry)) r)) ⌝ }
 {
     pivot(l, p, n, j, max_idx);
     let tied = r.tied;
@@ -192,8 +192,8 @@ fn step_at(
 // The jth iteration of the factorization.
 fn factorize(l: &mut [f64], n: usize, j: usize, r: Progress) -> Progress
     requires { ⌜ Square n (now l) ⌝ }
-    requires { ⌜ (j < n) × Symmetric n (now l) ⌝ }
-    ensures { λ q. ⌜ ((e g : List Float) (p : List ℕ) → state (now (l .exit)) e g p q ≡ factorize n j (state (now (l .entry)) e g p r)) ⌝ }
+    requires { ⌜ j < n ⌝ }
+    ensures { λ q. ⌜ ((e g : List Float) (p : List ℕ) → state (mirrored n (now (l .exit))) e g p q ≡ factorize n j (state (mirrored n (now (l .entry))) e g p r)) ⌝ }
 {
     let ok = statements::eliminate(l, n, j);
     let tied = r.tied;
@@ -219,8 +219,8 @@ fn phase_one_step(
     r: Progress,
 ) -> Progress
     requires { ⌜ Square n (now l) ⌝ }
-    requires { ⌜ (length (now p) ≡ n) × (length (now diag) ≡ n) × (j < n) × Symmetric n (now l) ⌝ }
-    ensures { λ q. ⌜ ((e g : List Float) → state (now (l .exit)) e g (now (p .exit)) q ≡ inPhaseOne v t gamma n j (state (now (l .entry)) e g (now (p .entry)) r)) ⌝ }
+    requires { ⌜ (length (now p) ≡ n) × (length (now diag) ≡ n) × (j < n) ⌝ }
+    ensures { λ q. ⌜ ((e g : List Float) → state (mirrored n (now (l .exit))) e g (now (p .exit)) q ≡ inPhaseOne v t gamma n j (state (mirrored n (now (l .entry))) e g (now (p .entry)) r)) ⌝ }
 {
     let phase2 = r.phase2;
     let refused = r.refused;
@@ -248,8 +248,8 @@ pub fn phase_one(
     r: Progress,
 ) -> Progress
     requires { ⌜ Square n (now l) ⌝ }
-    requires { ⌜ (length (now p) ≡ n) × (length (now diag) ≡ n) × Symmetric n (now l) ⌝ }
-    ensures { λ q. ⌜ ((e g : List Float) → state (now (l .exit)) e g (now (p .exit)) q ≡ phaseOne v t gamma n (state (now (l .entry)) e g (now (p .entry)) r)) ⌝ }
+    requires { ⌜ (length (now p) ≡ n) × (length (now diag) ≡ n) ⌝ }
+    ensures { λ q. ⌜ ((e g : List Float) → state (mirrored n (now (l .exit))) e g (now (p .exit)) q ≡ phaseOne v t gamma n (state (mirrored n (now (l .entry))) e g (now (p .entry)) r)) ⌝ }
 {
     let mut q = r;
     for j in 0..n {

@@ -10,7 +10,7 @@ ghost use Rattle.matrix.specs.Matrix.{Square, at};
 ghost use Rattle.matrix.specs.Search.{largest};
 ghost use Rattle.matrix.specs.Plain.{AllBelow};
 ghost use Rattle.methods.specs.Statements.{largerMagnitude, diagonalMax, diagonalFrom, pivotMatrix, pivotList, eliminate, clearAfter, lowerTriangle, reorder, all, blockFinite};
-ghost use Rattle.methods.specs.Elimination.{Symmetric, RowWritten, RowsEliminated, subtracted};
+ghost use Rattle.methods.specs.Elimination.{mirrored, mirrorRow, mirrorColumn, RowWritten, ColumnWritten, RowsEliminated, subtracted};
 ghost use Rattle.methods.specs.Result.{identity};
 use arithmetic::double::abs;
 use arithmetic::double::finite;
@@ -97,36 +97,87 @@ pub fn pivot_list(g: &mut [f64], j: usize, max_idx: usize)
     }
 }
 
+// ---- symmetric matrices: they are held on and below the diagonal, and what stands above it may be old
+
+// Row i after i becomes column i.
+fn mirror_row(l: &mut [f64], n: usize, i: usize)
+    requires { ⌜ Square n (now l) ⌝ }
+    requires { ⌜ i < n ⌝ }
+    ensures { λ _. ⌜ now (l .exit) ≡ mirrorRow n i (now (l .entry)) ⌝ }
+{
+    let a = i + 1;
+    for k in a..n {
+        put(l, n, i, k, get(l, n, k, i));
+    }
+}
+
+// Column q, from row j to above the diagonal, becomes row q.
+fn mirror_column(l: &mut [f64], n: usize, j: usize, q: usize)
+    requires { ⌜ Square n (now l) ⌝ }
+    requires { ⌜ (j ≤ q) × (q < n) ⌝ }
+    ensures { λ _. ⌜ now (l .exit) ≡ mirrorColumn n j q (now (l .entry)) ⌝ }
+{
+    for i in j..q {
+        put(l, n, i, q, get(l, n, q, i));
+    }
+}
+
+// The whole matrix.
+pub fn mirror(l: &mut [f64], n: usize)
+    requires { ⌜ Square n (now l) ⌝ }
+    ensures { λ _. ⌜ now (l .exit) ≡ mirrored n (now (l .entry)) ⌝ }
+{
+    for i in 0..n {
+        mirror_row(l, n, i);
+    }
+}
+
+// What the swaps bring below the diagonal is mirrored first.
+pub fn pivot_symmetric(l: &mut [f64], n: usize, j: usize, max_idx: usize)
+    requires { ⌜ Square n (now l) ⌝ }
+    requires { ⌜ j + «max_idx» < n ⌝ }
+    ensures { λ _. ⌜ mirrored n (now (l .exit)) ≡ pivotMatrix n j «max_idx» (mirrored n (now (l .entry))) ⌝ }
+{
+    if max_idx != 0 {
+        let q = j + max_idx;
+        mirror_row(l, n, j);
+        mirror_column(l, n, j, q);
+        utils::swap_rows(l, n, j, q);
+        utils::swap_columns(l, n, j, q);
+    }
+}
+
 // ---- the jth iteration of the factorization in SE90 and SE99
 
-// Divides row j after j by r; column gets the quotients.
-fn divide_row(l: &mut [f64], n: usize, j: usize, r: f64, column: &mut [f64]) -> bool
+// Divides column j after j by r; column gets the quotients.
+fn divide_column(l: &mut [f64], n: usize, j: usize, r: f64, column: &mut [f64]) -> bool
     requires { ⌜ Square n (now l) ⌝ }
     requires { ⌜ (j < n) × (n ≤ length (now column)) ⌝ }
-    ensures { λ ok. ⌜ RowWritten n j (j + 1) (λ y. at n (now (l .entry)) j y ⊘ r) (now (l .entry)) n (now (l .exit)) ok × ((y : ℕ) → j + 1 ≤ y → y < n → getD (now (column .exit)) y nan ≡ at n (now (l .entry)) j y ⊘ r) ⌝ }
+    ensures { λ ok. ⌜ ColumnWritten n j (j + 1) (λ x. at n (now (l .entry)) x j ⊘ r) (now (l .entry)) n (now (l .exit)) ok × ((x : ℕ) → j + 1 ≤ x → x < n → getD (now (column .exit)) x nan ≡ at n (now (l .entry)) x j ⊘ r) ⌝ }
 {
     let mut ok = true;
     let a = j + 1;
-    for k in a..n {
-        let jk = cell(n, j, k);
-        let v = l[jk] / r;
-        l[jk] = v;
-        column[k] = v;
+    for i in a..n {
+        let ij = cell(n, i, j);
+        let v = l[ij] / r;
+        l[ij] = v;
+        column[i] = v;
         ok = both(ok, finite(v));
     }
     ok
 }
 
-// Row i after j less column[i] times the column.
+// Row i, from j + 1 to the diagonal, less column[i] times the column.
 fn subtract_multiple(l: &mut [f64], n: usize, j: usize, i: usize, column: &[f64]) -> bool
     requires { ⌜ Square n (now l) ⌝ }
-    requires { ⌜ (j < n) × (i < n) × (n ≤ length (now column)) ⌝ }
-    ensures { λ ok. ⌜ RowWritten n i (j + 1) (subtracted n (now (l .entry)) (now (column .entry)) i) (now (l .entry)) n (now (l .exit)) ok ⌝ }
+    requires { ⌜ (j < i) × (i < n) × (n ≤ length (now column)) ⌝ }
+    ensures { λ ok. ⌜ RowWritten n i (j + 1) (subtracted n (now (l .entry)) (now (column .entry)) i) (now (l .entry)) (i + 1) (now (l .exit)) ok ⌝ }
 {
     let mut ok = true;
     let x = column[i];
     let a = j + 1;
-    for k in a..n {
+    let b = i + 1;
+    for k in a..b {
         let ik = cell(n, i, k);
         let v = l[ik] - x * column[k];
         l[ik] = v;
@@ -135,7 +186,7 @@ fn subtract_multiple(l: &mut [f64], n: usize, j: usize, i: usize, column: &[f64]
     ok
 }
 
-// The rows after j, column being what is to stand in column j.
+// The rows after j, column being what stands in column j.
 fn eliminate_rows(l: &mut [f64], n: usize, j: usize, column: &[f64]) -> bool
     requires { ⌜ Square n (now l) ⌝ }
     requires { ⌜ (j < n) × (n ≤ length (now column)) ⌝ }
@@ -144,25 +195,23 @@ fn eliminate_rows(l: &mut [f64], n: usize, j: usize, column: &[f64]) -> bool
     let mut ok = true;
     let a = j + 1;
     for i in a..n {
-        put(l, n, i, j, column[i]);
         ok = both(ok, subtract_multiple(l, n, j, i, column));
     }
     ok
 }
 
-// Of a symmetric matrix; whether rows and columns j to n - 1 are finite then.
+// The whole iteration; whether rows and columns j to n - 1 are finite then.
 pub fn eliminate(l: &mut [f64], n: usize, j: usize) -> bool
     requires { ⌜ Square n (now l) ⌝ }
-    requires { ⌜ Symmetric n (now l) ⌝ }
     requires { ⌜ j < n ⌝ }
-    ensures { λ r. ⌜ (now (l .exit) ≡ eliminate n j (now (l .entry))) × (r ≡ blockFinite n j (now (l .exit))) ⌝ }
+    ensures { λ r. ⌜ (mirrored n (now (l .exit)) ≡ eliminate n j (mirrored n (now (l .entry)))) × (r ≡ blockFinite n j (mirrored n (now (l .exit)))) ⌝ }
 {
     let root = sqrt(get(l, n, j, j));
     put(l, n, j, j, root);
     let mut column = [0.0; 48];
-    let row = divide_row(l, n, j, root, &mut column);
+    let divided = divide_column(l, n, j, root, &mut column);
     let rows = eliminate_rows(l, n, j, &column);
-    both(both(finite(root), row), rows)
+    both(both(finite(root), divided), rows)
 }
 
 // ---- at the end

@@ -1,31 +1,29 @@
 use borrow.Author.Needs.{needs}
 use mathlib.Core.Path.{_≡_, refl, sym, _∙_}
-use mathlib.Core.List.{List, []}
+use mathlib.Core.List.{List}
 use Prim.Native.Nat.{_-_, _≤_, zero-le}
-use native.Mathlib.Omega.{arith}
 use lib.ListN.{length}
 use lib.Ieee.{Float}
 use Rattle.arithmetic.specs.Loop.{range, loop-start, loop-turn, loop-end}
-use Rattle.methods.specs.Elimination.{Symmetric}
+use Rattle.methods.specs.Elimination.{mirrored}
 use Rattle.methods.specs.Se.{state, inPhaseOne}
-use Rattle.methods.proofs.SeLaws.{square-same, phaseOne-is}
-use Rattle.methods.proofs.Symmetric.{inPhaseOne-symmetric}
+use Rattle.methods.proofs.SeLaws.{phaseOne-is}
 use Rattle.phase_one.proofs.phase_one.Statement.{statement}
 use Rattle.phase_one.proofs.phase_one.Tie as tie
 
 abbrev Inv-loop : tie.InvT-loop
 Inv-loop v t gamma l₀ p₀ diag₀ n q₀ j₀ l p diag q j =
     (j ≤ n) × (length l ≡ length l₀) × (length p ≡ length p₀) × (length diag ≡ length diag₀)
-    × ((e g : List Float) → state l e g p q ≡ range 0 j (inPhaseOne v t gamma n) (state l₀ e g p₀ q₀)) × Symmetric n l
+    × ((e g : List Float) → state (mirrored n l) e g p q ≡ range 0 j (inPhaseOne v t gamma n) (state (mirrored n l₀) e g p₀ q₀))
 
 abbrev μ-loop : tie.MeasureT-loop
 μ-loop v t gamma l₀ p₀ diag₀ n q₀ j₀ l p diag q j = n - j
 
 loop-holds : tie.Need-loop-holds Inv-loop μ-loop
-loop-holds c = (search needs, refl, refl, refl, (λ e g. loop-start _ _ _), search needs)
+loop-holds c = (search needs, refl, refl, refl, λ e g. loop-start _ _ _)
 
 phase-one-step-requires : tie.Need-phase-one-step-requires Inv-loop μ-loop
-phase-one-step-requires c κs = (search needs, (search needs, search needs, search needs, c .before .before .before .before .loop .inv .5))
+phase-one-step-requires c κs = search needs
 
 add-j : tie.Need-add-j Inv-loop μ-loop
 add-j c = search needs
@@ -37,14 +35,7 @@ loop-again : tie.Need-loop-again Inv-loop μ-loop
 loop-again c =
     let p = c .before .before .before .before .before .before in
     let l = p .before .before .before .before .before .loop in
-    let s = p .before .before .before .before .before .before .before .before .before in (
-      search needs,
-      search needs,
-      search needs,
-      search needs,
-      (λ e g. loop-turn 0 _ _ _ _ _ zero-le (l .inv .4 e g) (p .phase-one-step .ensures e g)),
-      inPhaseOne-symmetric _ _ _ _ (state (l .l) [] [] (l .p) (l .q)) _ (square-same _ (l .inv .1) (s .pre .0)) (l .inv .5) (l .j) (omega arith) (p .phase-one-step .ensures [] []),
-    )
+    (search needs, search needs, search needs, search needs, λ e g. loop-turn 0 _ _ _ _ _ zero-le (l .inv .4 e g) (p .phase-one-step .ensures e g))
 
 same-length : tie.Need-same-length Inv-loop μ-loop
 same-length c = search needs

@@ -1,8 +1,9 @@
 use borrow.Author.Needs.{needs}
-use mathlib.Core.Path.{_≡_, refl}
+use mathlib.Core.Path.{_≡_, refl, sym, ap, _∙_}
 use mathlib.Core.Bool.{Bool, true, false}
 use mathlib.Core.List.{List}
 use Prim.Native.Nat.{ℕ}
+use native.Mathlib.Omega.{arith}
 use lib.Ieee.{Float}
 use Rattle.matrix.specs.Search.{largest}
 use Rattle.matrix.specs.declared.utils.Found.{Found}
@@ -12,6 +13,7 @@ use Rattle.methods.specs.Se.{Run, state, leavesBefore, leave, stepAt, phaseOneS
 use Rattle.methods.specs.declared.schnabel_eskow.Progress.{Progress}
 use Rattle.methods.specs.declared.schnabel_eskow.Tolerances.{Tolerances}
 use Rattle.methods.specs.declared.schnabel_eskow.Variant.{Variant}
+use Rattle.methods.proofs.Mirrored.{leavesBefore-mirrored, diagonalFrom-mirrored}
 use Rattle.methods.proofs.Pivots.{diagonal-pick}
 use Rattle.methods.proofs.SeLaws.{phaseOneStep-is, inPhaseOne-is}
 use Rattle.phase_one.proofs.phase_one_step.Statement.{statement}
@@ -77,7 +79,7 @@ same-length : tie.Need-same-length
 same-length c = search needs
 
 returns-3 : tie.Need-returns-3
-returns-3 c = leaves _ _ _ _ _ _ _ _ (c .before .before .before .before .before .before .before .marked .ensures) (c .before .before .before .before .before .before .if1 .left) (c .before .before .before .before .before .marked2 .ensures) (c .before .before .before .before .if2 .left) _ (c .before .before .leaves-before .ensures) (c .before .if3 .taken) (c .leave .ensures)
+returns-3 c = leaves _ _ _ _ _ _ _ _ (c .before .before .before .before .before .before .before .marked .ensures) (c .before .before .before .before .before .before .if1 .left) (c .before .before .before .before .before .marked2 .ensures) (c .before .before .before .before .if2 .left) _ (c .before .before .leaves-before .ensures ∙ sym (leavesBefore-mirrored _ _ _ _ _ _ (omega arith))) (c .before .if3 .taken) (c .leave .ensures)
 
 search-diagonal-requires : tie.Need-search-diagonal-requires
 search-diagonal-requires c κs = search needs
@@ -86,7 +88,7 @@ step-at-requires : tie.Need-step-at-requires
 step-at-requires c κs =
     let c8 = c .before .before .before .before .before .before .before .before in
     let c16 = c8 .before .before .before .before .before .before .before .before in
-    (search needs, (search needs, diagonal-pick _ _ _ _ _ (c .before .before .before .before .search-diagonal .ensures) (c16 .before .pre .1 .2), search needs))
+    (search needs, (search needs, diagonal-pick _ _ _ _ _ (c .before .before .before .before .search-diagonal .ensures) (c16 .before .pre .1 .2)))
 
 same-length-2 : tie.Need-same-length-2
 same-length-2 c = search needs
@@ -100,7 +102,8 @@ same-length-4 c = search needs
 returns-4 : tie.Need-returns-4
 returns-4 c =
     let b = c .before .before .before .before .before .before .before .before .before in
-    goes-on _ _ _ _ _ _ _ _ (b .before .before .before .before .before .before .before .before .before .marked .ensures) (b .before .before .before .before .before .before .before .before .if1 .left) (b .before .before .before .before .before .before .before .marked2 .ensures) (b .before .before .before .before .before .before .if2 .left) _ _ _ _ (b .before .before .before .before .leaves-before .ensures) (b .before .before .before .if3 .left) (b .search-diagonal .ensures) (c .before .before .before .before .step-at .ensures)
+    let s = b .before .before .before .before .before .before .before .before .before .before .before .before .before in
+    goes-on _ _ _ _ _ _ _ _ (b .before .before .before .before .before .before .before .before .before .marked .ensures) (b .before .before .before .before .before .before .before .before .if1 .left) (b .before .before .before .before .before .before .before .marked2 .ensures) (b .before .before .before .before .before .before .if2 .left) _ _ _ _ (b .before .before .before .before .leaves-before .ensures ∙ sym (leavesBefore-mirrored _ _ _ _ _ _ (s .pre .1 .2))) (b .before .before .before .if3 .left) (b .search-diagonal .ensures ∙ ap (largest false) (sym (diagonalFrom-mirrored _ _ _))) (c .before .before .before .before .step-at .ensures)
 
 pub phase-one-step-spec : {M : Type 1} → statement M
 phase-one-step-spec =

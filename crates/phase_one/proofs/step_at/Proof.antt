@@ -1,18 +1,20 @@
 use borrow.Author.Needs.{needs}
-use mathlib.Core.Path.{_≡_, ap, _∙_}
+use mathlib.Core.Path.{_≡_, sym, ap, _∙_}
 use mathlib.Core.Bool.{Bool, true, false}
 use mathlib.Core.List.{List}
-use Prim.Native.Nat.{ℕ}
+use Prim.Native.Nat.{ℕ, _<_}
+use native.Mathlib.Omega.{arith}
 use lib.Ieee.{Float}
 use Rattle.methods.specs.Marks.{mark}
 use Rattle.methods.specs.Statements.{pivotMatrix, pivotList}
+use Rattle.methods.specs.Elimination.{mirrored}
 use Rattle.methods.specs.Se.{state, tmpOf, leavesAfter, leave, pivot, factorize, stepAt}
 use Rattle.methods.specs.declared.decomposition.Mark.{Mark}
 use Rattle.methods.specs.declared.schnabel_eskow.Progress.{Progress}
 use Rattle.methods.specs.declared.schnabel_eskow.Tolerances.{Tolerances}
 use Rattle.methods.specs.declared.schnabel_eskow.Variant.{Variant}
 use Rattle.methods.proofs.SeLaws.{stepAt-is}
-use Rattle.methods.proofs.Symmetric.{pivot-keeps}
+use Rattle.methods.proofs.Mirrored.{tmpOf-mirrored}
 use Rattle.phase_one.proofs.step_at.Statement.{statement}
 use Rattle.phase_one.proofs.step_at.Tie as tie
 
@@ -37,9 +39,11 @@ same-length c = search needs
 same-length-2 : tie.Need-same-length-2
 same-length-2 c = search needs
 
-tested : (v : Variant) (t : Tolerances) (gamma : Float) (n j k : ℕ) (l l₁ : List Float) (tmp : Float) {b x : Bool} → l₁ ≡ pivotMatrix n j k l → tmp ≡ tmpOf n j l₁
+tested : (v : Variant) (t : Tolerances) (gamma : Float) (n j k : ℕ) (l l₁ : List Float) (tmp : Float) {b x : Bool} → j < n → mirrored n l₁ ≡ pivotMatrix n j k l → tmp ≡ tmpOf n j l₁
     → b ≡ leavesAfter v t gamma tmp → b ≡ x → leavesAfter v t gamma (tmpOf n j (pivotMatrix n j k l)) ≡ x
-tested v t gamma n j k l l₁ tmp el et eb h = rw (eb, et, el) at h
+tested v t gamma n j k l l₁ tmp p el et eb h =
+    let et' : tmp ≡ tmpOf n j (pivotMatrix n j k l) = et ∙ sym (tmpOf-mirrored n l₁ j p) ∙ ap (tmpOf n j) el in
+    rw (eb, et') at h
 
 module _ (v : Variant) (t : Tolerances) (gamma : Float) (n j k : ℕ) (tie : Bool) (l l₁ : List Float) (p p₁ : List ℕ) (m : Mark) (r : Progress)
     (el : l₁ ≡ pivotMatrix n j k l) (ep : p₁ ≡ pivotList 0 j k p) (em : m ≡ mark (r .tied) tie j) where
@@ -65,13 +69,10 @@ returns c =
     let c8 = c .before .before .before .before .before .before .before .before in
     let b = c8 .before .before .pivot .ensures in
     let m = c .before .before .before .before .before .mark .ensures in
-    leaves _ _ _ _ _ _ _ _ _ _ _ _ _ (b .0) (b .1) m _ (tested _ _ _ _ _ _ _ _ _ (b .0) (c .before .before .before .tmp-of .ensures) (c .before .before .leaves-after .ensures) (c .before .if1 .taken)) (c .leave .ensures)
+    leaves _ _ _ _ _ _ _ _ _ _ _ _ _ (b .0) (b .1) m _ (tested _ _ _ _ _ _ _ _ _ (omega arith) (b .0) (c .before .before .before .tmp-of .ensures) (c .before .before .leaves-after .ensures) (c .before .if1 .taken)) (c .leave .ensures)
 
 factorize-requires : tie.Need-factorize-requires
-factorize-requires c κs =
-    let p = c .before .before .before .before .before .before .before .before .before .before in
-    let s = p .before .before .before .before .before in
-    (search needs, (search needs, pivot-keeps _ _ _ _ _ (s .pre .0) (s .pre .1 .2) (s .pre .1 .1) (p .pivot .ensures .0)))
+factorize-requires c κs = search needs
 
 same-length-3 : tie.Need-same-length-3
 same-length-3 c = search needs
@@ -83,8 +84,9 @@ returns-2 : tie.Need-returns-2
 returns-2 c =
     let c8 = c .before .before .before .before .before .before .before .before in
     let b = c8 .before .before .before .before .before .pivot .ensures in
+    let s = c8 .before .before .before .before .before .before .before .before .before .before in
     let m = c8 .mark .ensures in
-    goes-on _ _ _ _ _ _ _ _ _ _ _ _ _ (b .0) (b .1) m _ _ (tested _ _ _ _ _ _ _ _ _ (b .0) (c .before .before .before .before .before .before .tmp-of .ensures) (c .before .before .before .before .before .leaves-after .ensures) (c .before .before .before .before .if1 .left)) (c .before .before .factorize .ensures)
+    goes-on _ _ _ _ _ _ _ _ _ _ _ _ _ (b .0) (b .1) m _ _ (tested _ _ _ _ _ _ _ _ _ (omega (arith, s .pre .1 .1)) (b .0) (c .before .before .before .before .before .before .tmp-of .ensures) (c .before .before .before .before .before .leaves-after .ensures) (c .before .before .before .before .if1 .left)) (c .before .before .factorize .ensures)
 
 pub step-at-spec : {M : Type 1} → statement M
 step-at-spec =

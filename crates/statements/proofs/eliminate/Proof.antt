@@ -14,11 +14,11 @@ sqrt-requires c κs = search needs
 put-requires : tie.Need-put-requires
 put-requires c κs = search needs
 
-slice-aggregate-divide-row : tie.Need-slice-aggregate-divide-row
-slice-aggregate-divide-row c = search needs
+slice-aggregate-divide-column : tie.Need-slice-aggregate-divide-column
+slice-aggregate-divide-column c = search needs
 
-divide-row-requires : tie.Need-divide-row-requires
-divide-row-requires c κs = search needs
+divide-column-requires : tie.Need-divide-column-requires
+divide-column-requires c κs = search needs
 
 slice-aggregate-eliminate-rows : tie.Need-slice-aggregate-eliminate-rows
 slice-aggregate-eliminate-rows c = search needs
@@ -46,8 +46,8 @@ returns c =
     let q = p .before .before in
     let t = q .before .before .before .before in
     let er = q .sqrt .ensures ∙ ap sqrt (q .before .get .ensures) in
-    let D = d .divide-row .ensures in
-    let E = rows-eliminate (t .args .n) (t .args .j) (t .args .l .now) _ _ _ _ (q .sqrt .result) _ _ (t .pre .1 .1) (t .pre .0 .len) (t .pre .1 .0) er (p .put .ensures) (D .0) (D .1) (r .eliminate-rows .ensures) in
+    let D = d .divide-column .ensures in
+    let E = rows-eliminate (t .args .n) (t .args .j) (t .args .l .now) _ _ _ _ (q .sqrt .result) _ _ (t .pre .1) (t .pre .0 .len) er (p .put .ensures) (D .0) (D .1) (r .eliminate-rows .ensures) in
     (E .0, c .both2 .ensures ∙ rw (c .before .both .ensures, c .before .before .finite .ensures) (E .1))
 
 pub eliminate-spec : {M : Type 1} → statement M
@@ -57,8 +57,8 @@ eliminate-spec =
     get-requires
     sqrt-requires
     put-requires
-    slice-aggregate-divide-row
-    divide-row-requires
+    slice-aggregate-divide-column
+    divide-column-requires
     slice-aggregate-eliminate-rows
     eliminate-rows-requires
     finite-requires

@@ -20,15 +20,6 @@ add-a c = search needs
 loop-holds : tie.Need-loop-holds Inv-loop μ-loop
 loop-holds c = (omega arith, search needs, refl, rows-start _ _ _ _ (c .before .before .pre .0 .len))
 
-mul-put : tie.Need-mul-put Inv-loop μ-loop
-mul-put c = search needs
-
-shared-slice-read-put : tie.Need-shared-slice-read-put Inv-loop μ-loop
-shared-slice-read-put c = search needs
-
-put-requires : tie.Need-put-requires Inv-loop μ-loop
-put-requires c κs = search needs
-
 subtract-multiple-requires : tie.Need-subtract-multiple-requires Inv-loop μ-loop
 subtract-multiple-requires c κs = search needs
 
@@ -44,9 +35,8 @@ loop-less c = search needs
 loop-again : tie.Need-loop-again Inv-loop μ-loop
 loop-again c =
     let s = c .before .before .before in
-    let p = s .before .before .before .before in
-    let l = p .before .before .before .before .loop in
-    (omega arith, search needs, search needs, rows-more _ _ _ _ (l .i) (l .l) _ _ (l .ok) (l .inv .0) (omega arith) (l .inv .3) (p .put .ensures) _ _ (s .subtract-multiple .ensures) (c .both .ensures))
+    let l = s .before .before .before .loop in
+    (omega arith, search needs, search needs, rows-more _ _ _ _ (l .i) (l .l) _ (l .ok) (l .inv .0) (omega arith) (l .inv .3) _ _ (s .subtract-multiple .ensures) (c .both .ensures))
 
 same-length : tie.Need-same-length Inv-loop μ-loop
 same-length c = search needs
@@ -64,9 +54,6 @@ eliminate-rows-spec =
     μ-loop
     add-a
     loop-holds
-    mul-put
-    shared-slice-read-put
-    put-requires
     subtract-multiple-requires
     both-requires
     add-i

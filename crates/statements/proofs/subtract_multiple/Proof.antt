@@ -5,16 +5,16 @@ use lib.ListN.{length, getD, length-set}
 use lib.Ieee.{Float, nan}
 use Rattle.arithmetic.specs.Double.{_⊖_, _⊗_}
 use Rattle.methods.specs.Elimination.{RowWritten, subtracted}
-use Rattle.methods.proofs.Rows.{row-start, row-turn, row-end}
+use Rattle.methods.proofs.Rows.{cells-start, cells-turn, cells-end}
 use borrow.Author.Needs.{needs}
 use Rattle.statements.proofs.subtract_multiple.Statement.{statement}
 use Rattle.statements.proofs.subtract_multiple.Tie as tie
 
 abbrev Inv-loop : tie.InvT-loop
-Inv-loop l₀ n j i column ok₀ x a k₀ l ok k = (a ≤ k) × (k ≤ n) × (length l ≡ length l₀) × RowWritten n i a (subtracted n l₀ column i) l₀ k l ok
+Inv-loop l₀ n j i column ok₀ x a b k₀ l ok k = (a ≤ k) × (k ≤ b) × (length l ≡ length l₀) × RowWritten n i a (subtracted n l₀ column i) l₀ k l ok
 
 abbrev μ-loop : tie.MeasureT-loop
-μ-loop l₀ n j i column ok₀ x a k₀ l ok k = n - k
+μ-loop l₀ n j i column ok₀ x a b k₀ l ok k = b - k
 
 mul-x : tie.Need-mul-x Inv-loop μ-loop
 mul-x c = search needs
@@ -25,8 +25,11 @@ shared-slice-read-x c = search needs
 add-a : tie.Need-add-a Inv-loop μ-loop
 add-a c = search needs
 
+add-b : tie.Need-add-b Inv-loop μ-loop
+add-b c = search needs
+
 loop-holds : tie.Need-loop-holds Inv-loop μ-loop
-loop-holds c = (search needs, search needs, refl, row-start _ _ _ _ _ (c .before .before .before .pre .0 .len))
+loop-holds c = (search needs, search needs, refl, cells-start _ _ _ _ _ _ (c .before .before .before .pre .0 .len))
 
 cell-requires : tie.Need-cell-requires Inv-loop μ-loop
 cell-requires c κs = search needs
@@ -70,7 +73,7 @@ loop-again c =
       search needs,
       search needs,
       simp length-set (l .inv .2),
-      row-turn (a .n) (a .i) (a .j + 1) (subtracted (a .n) (a .l .now) (a .column .now) (a .i)) (a .l .now) (l .k) (q .result) (l .l) op (l .ok) (c .both .result) (omega arith) (l .inv .0) (omega arith) (q .ensures .0) refl (l .inv .3) (rw (c .both .ensures, c .before .finite .ensures)) .1,
+      cells-turn (a .n) (a .j + 1) (λ y. a .i) (λ y. y) (subtracted (a .n) (a .l .now) (a .column .now) (a .i)) (a .l .now) (λ y z u w. w) (l .k) (l .inv .0) (omega arith) (λ y p. omega arith) (q .result) (l .l) op (l .ok) (c .both .result) (q .ensures .0) refl (l .inv .3) (rw (c .both .ensures, c .before .finite .ensures)) .1,
     )
 
 same-length : tie.Need-same-length Inv-loop μ-loop
@@ -79,7 +82,7 @@ same-length c = search needs
 returns : tie.Need-returns Inv-loop μ-loop
 returns c =
     let l = c .before .loop in
-    row-end _ _ _ _ _ _ _ _ (l .inv .1) (omega arith) (l .inv .3)
+    cells-end _ _ _ _ _ _ _ _ _ _ (l .inv .1) (omega arith) (l .inv .3)
 
 pub subtract-multiple-spec : {M : Type 1} → statement M
 subtract-multiple-spec =
@@ -90,6 +93,7 @@ subtract-multiple-spec =
     mul-x
     shared-slice-read-x
     add-a
+    add-b
     loop-holds
     cell-requires
     mul-v
