@@ -1,7 +1,7 @@
 // What SE90 and SE99 share of phase one.
 ghost use mathlib.Core.Path.{_≡_};
 ghost use mathlib.Core.List.{List};
-ghost use mathlib.Core.Bool.{Bool, cond};
+ghost use mathlib.Core.Bool.{Bool, cond, not};
 ghost use Prim.Native.Nat.{ℕ, _+_, _-_, _*_, _<_, _≤_};
 ghost use lib.ListN.{length};
 ghost use lib.Ieee.{Float, lt};
@@ -148,7 +148,7 @@ fn leave(r: Progress, j: usize) -> Progress
 }
 
 // The pivot max_idx after j goes to j. From here on l holds a symmetric matrix on and below the diagonal.
-fn pivot(l: &mut [f64], p: &mut [usize], n: usize, j: usize, max_idx: usize)
+pub fn pivot(l: &mut [f64], p: &mut [usize], n: usize, j: usize, max_idx: usize)
     requires { ⌜ Square n (now l) ⌝ }
     requires { ⌜ (length (now p) ≡ n) × (j + «max_idx» < n) ⌝ }
     ensures { λ _. ⌜ (mirrored n (now (l .exit)) ≡ pivotMatrix n j «max_idx» (mirrored n (now (l .entry)))) × (now (p .exit) ≡ pivotList 0 j «max_idx» (now (p .entry))) ⌝ }
@@ -189,13 +189,10 @@ fn step_at(
     factorize(l, n, j, pivoted)
 }
 
-// The jth iteration of the factorization.
-fn factorize(l: &mut [f64], n: usize, j: usize, r: Progress) -> Progress
-    requires { ⌜ Square n (now l) ⌝ }
-    requires { ⌜ j < n ⌝ }
-    ensures { λ q. ⌜ ((e g : List Float) (p : List ℕ) → state (mirrored n (now (l .exit))) e g p q ≡ factorize n j (state (mirrored n (now (l .entry))) e g p r)) ⌝ }
+// Marks step j as refused unless what it stored is finite.
+pub fn refuse_unless(ok: bool, j: usize, r: Progress) -> Progress
+    ensures { λ q. ⌜ q ≡ record { «delta_prev» = r .«delta_prev»; tied = r .tied; phase2 = r .phase2; refused = mark (r .refused) (not ok) j } ⌝ }
 {
-    let ok = statements::eliminate(l, n, j);
     let tied = r.tied;
     let phase2 = r.phase2;
     let refused = r.refused;
@@ -205,6 +202,16 @@ fn factorize(l: &mut [f64], n: usize, j: usize, r: Progress) -> Progress
         phase2,
         refused: refused.mark(!ok, j),
     }
+}
+
+// The jth iteration of the factorization.
+fn factorize(l: &mut [f64], n: usize, j: usize, r: Progress) -> Progress
+    requires { ⌜ Square n (now l) ⌝ }
+    requires { ⌜ j < n ⌝ }
+    ensures { λ q. ⌜ ((e g : List Float) (p : List ℕ) → state (mirrored n (now (l .exit))) e g p q ≡ factorize n j (state (mirrored n (now (l .entry))) e g p r)) ⌝ }
+{
+    let ok = statements::eliminate(l, n, j);
+    refuse_unless(ok, j, r)
 }
 
 fn phase_one_step(

@@ -33,19 +33,19 @@ count-up-requires : tie.Need-count-up-requires
 count-up-requires c κs = search needs
 
 same-length : tie.Need-same-length
-same-length c = search needs
+same-length c = c .before .before .before .before .before .before .before .before .before .before .before .before .before .before .before .before .before .before .before .before .before .l .given
 
 same-length-2 : tie.Need-same-length-2
-same-length-2 c = search needs
+same-length-2 c = c .before .before .before .before .before .before .before .before .before .before .before .before .before .c2 .given ∙ c .before .before .before .before .before .before .before .before .before .before .before .before .before .before .before .before .before .c .given
 
 same-length-3 : tie.Need-same-length-3
-same-length-3 c = search needs
+same-length-3 c = c .before .before .before .before .before .before .before .before .before .d .given
 
 same-length-4 : tie.Need-same-length-4
-same-length-4 c = search needs
+same-length-4 c = c .before .before .before .before .before .e .given
 
 same-length-5 : tie.Need-same-length-5
-same-length-5 c = search needs
+same-length-5 c = c .before .p .given
 
 begun : (n : ℕ) (a l c d d₀ e e₀ : List Float) (p p₀ : List ℕ) → length d₀ ≡ n → length e₀ ≡ n → length p₀ ≡ n
     → l ≡ a → c ≡ start n a .c → d ≡ zeros (length d₀) → e ≡ zeros (length e₀) → p ≡ identity (length p₀)

@@ -24,16 +24,16 @@ count-up-requires : tie.Need-count-up-requires
 count-up-requires c κs = search needs
 
 same-length : tie.Need-same-length
-same-length c = search needs
+same-length c = c .before .before .before .before .before .before .before .before .before .before .before .before .before .l .given
 
 same-length-2 : tie.Need-same-length-2
-same-length-2 c = search needs
+same-length-2 c = c .before .before .before .before .before .before .before .before .before .e .given
 
 same-length-3 : tie.Need-same-length-3
-same-length-3 c = search needs
+same-length-3 c = c .before .before .before .before .before .g .given
 
 same-length-4 : tie.Need-same-length-4
-same-length-4 c = search needs
+same-length-4 c = c .before .p .given
 
 started : (n : ℕ) (a l e g : List Float) (p : List ℕ) → l ≡ a → e ≡ zeros n → g ≡ zeros n → p ≡ identity n
     → state l e g p (record { «delta_prev» = plus-zero; tied = Never; phase2 = Never; refused = Never }) ≡ start n a

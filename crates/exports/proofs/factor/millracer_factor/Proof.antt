@@ -11,16 +11,16 @@ of-requires : tie.Need-of-requires
 of-requires c κs = search needs
 
 same-length : tie.Need-same-length
-same-length c = search needs
+same-length c = c .before .before .before .before .before .before .before .before .l .given
 
 same-length-2 : tie.Need-same-length-2
-same-length-2 c = search needs
+same-length-2 c = c .before .before .before .before .before .before .work .given
 
 same-length-3 : tie.Need-same-length-3
-same-length-3 c = search needs
+same-length-3 c = c .before .before .before .before .e .given
 
 same-length-4 : tie.Need-same-length-4
-same-length-4 c = search needs
+same-length-4 c = c .before .before .p .given
 
 returns : tie.Need-returns
 returns c = rw (c .of .ensures) (ap factorExport (c .before .before .before .before .before .before .before .before .before .factor .ensures))

@@ -12,7 +12,7 @@ shared-slice-read-result : tie.Need-shared-slice-read-result
 shared-slice-read-result c = search needs
 
 returns : tie.Need-returns
-returns c = cc
+returns c = rw (c .before .cell .ensures .0)
 
 pub get-spec : {M : Type 1} → statement M
 get-spec = tie.close (tie.spec cell-requires mul-result shared-slice-read-result returns)

@@ -15,7 +15,7 @@ same-length : tie.Need-same-length
 same-length c = search needs
 
 returns : tie.Need-returns
-returns c = cc
+returns c = rw (c .cell .ensures .0)
 
 pub put-spec : {M : Type 1} → statement M
 put-spec = tie.close (tie.spec cell-requires mul-m slice-write-m same-length returns)

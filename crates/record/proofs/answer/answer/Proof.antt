@@ -25,7 +25,7 @@ write-refusal-requires c κs =
     ((omega arith, A .0 .0), A .0 .1)
 
 same-length : tie.Need-same-length
-same-length c = search needs
+same-length c = c .before .out .given
 
 returns-2 : tie.Need-returns-2
 returns-2 c =
@@ -36,7 +36,7 @@ answer-accepted-requires : tie.Need-answer-accepted-requires
 answer-accepted-requires c κs = (accepted (c .before .before .before .byte-checks .ensures) (c .before .before .complete .ensures) (c .before .if2 .left) .is, omega arith)
 
 same-length-2 : tie.Need-same-length-2
-same-length-2 c = search needs
+same-length-2 c = c .before .out2 .given
 
 returns-3 : tie.Need-returns-3
 returns-3 c = call-writes _ _ _ _ (omega arith) (c .before .before .answer-accepted .ensures)

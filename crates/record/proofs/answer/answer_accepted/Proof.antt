@@ -71,7 +71,7 @@ answer-entries-requires c κs =
     (s .pre .0, (s .pre .1, rw (← c .before .before .before .before .before .before .byte-at .ensures) (omega (arith, c .before .before .before .before .a .given), omega (arith, c .before .before .before .l .given), omega (arith, c .before .before .work .given), omega (arith, c .before .e .given), omega (arith, c .p .given))))
 
 same-length : tie.Need-same-length
-same-length c = search needs
+same-length c = c .before .before .before .before .before .before .out .given
 
 returns : tie.Need-returns
 returns c = search needs

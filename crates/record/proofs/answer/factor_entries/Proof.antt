@@ -1,12 +1,15 @@
 use borrow.Author.Needs.{needs}
-use mathlib.Core.Path.{_≡_, _∙_}
+use mathlib.Core.Path.{_≡_}
 use mathlib.Core.Bool.{true}
 use mathlib.Core.List.{List}
-use Prim.Native.Nat.{ℕ, _≤_}
+use Prim.Native.Nat.{ℕ, _-_, _≤_}
 use native.Mathlib.Omega.{arith}
-use lib.ListN.{length}
+use lib.ListN.{length, take, drop}
+use lib.Ieee.{Float}
 use Rattle.arithmetic.specs.Outcome.{complete}
-use Rattle.record.specs.MatrixRecord.{byte-checks}
+use Rattle.methods.specs.Calls.{Call, numbered-call}
+use Rattle.record.specs.Bytes.{doubles}
+use Rattle.record.specs.MatrixRecord.{sizeOf, methodOf, matrixOf, byte-checks}
 use Rattle.record.proofs.Fields.{entries-part}
 use Rattle.record.proofs.Accepted.{bytes-accepted}
 use Rattle.record.proofs.answer.factor_entries.Statement.{statement}
@@ -40,22 +43,27 @@ factor-requires : tie.Need-factor-requires
 factor-requires c κs = search needs
 
 same-length : tie.Need-same-length
-same-length c = search needs
+same-length c = c .before .before .before .before .before .before .before .before .before .before .before .before .before .before .before .before .before .a .given
 
 same-length-2 : tie.Need-same-length-2
-same-length-2 c = search needs
+same-length-2 c = c .before .before .before .before .before .before .before .l .given
 
 same-length-3 : tie.Need-same-length-3
-same-length-3 c = search needs
+same-length-3 c = c .before .before .before .before .before .work .given
 
 same-length-4 : tie.Need-same-length-4
-same-length-4 c = search needs
+same-length-4 c = c .before .before .before .e .given
 
 same-length-5 : tie.Need-same-length-5
-same-length-5 c = search needs
+same-length-5 c = c .before .p .given
+
+-- the call on what was read is the call on what the record says
+called : (b : List ℕ) (number n : ℕ) (a l work e : List Float) (p : List ℕ) (r : Call) → number ≡ methodOf b → n ≡ sizeOf b → a ≡ doubles (take (length b - 11) (drop 11 b))
+    → r ≡ numbered-call number n a l work e p → r ≡ numbered-call (methodOf b) (sizeOf b) (matrixOf b) l work e p
+called b number n a l work e p r em en ea er = rw (er, em, en, ea, entries-part)
 
 returns : tie.Need-returns
-returns c = c .before .before .before .before .before .before .before .before .factor .ensures ∙ rw (c .before .before .before .before .before .before .before .before .before .before .before .before .before .before .before .byte-at .ensures, c .before .before .before .before .before .before .before .before .before .before .before .before .before .byte-at2 .ensures, c .before .before .before .before .before .before .before .before .before .before .before .before .before .before .before .before .before .before .read-doubles .ensures, entries-part)
+returns c = called (c .before .before .before .before .before .before .before .before .before .before .before .before .before .before .before .before .before .before .before .before .before .before .before .before .before .before .before .args .b .now) _ _ _ _ _ _ _ _ (c .before .before .before .before .before .before .before .before .before .before .before .before .before .before .before .byte-at .ensures) (c .before .before .before .before .before .before .before .before .before .before .before .before .before .byte-at2 .ensures) (c .before .before .before .before .before .before .before .before .before .before .before .before .before .before .before .before .before .before .read-doubles .ensures) (c .before .before .before .before .before .before .before .before .factor .ensures)
 
 pub factor-entries-spec : {M : Type 1} → statement M
 factor-entries-spec =

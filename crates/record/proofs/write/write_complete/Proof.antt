@@ -1,4 +1,4 @@
-use borrow.Author.Needs.{needs}
+use mathlib.Core.Path.{_∙_}
 use native.Mathlib.Omega.{arith}
 use Rattle.record.specs.Writing.{result}
 use Rattle.record.proofs.WriteFields.{length-factor, complete-written}
@@ -6,13 +6,16 @@ use Rattle.record.proofs.write.write_complete.Statement.{statement}
 use Rattle.record.proofs.write.write_complete.Tie as tie
 
 write-marks-requires : tie.Need-write-marks-requires
-write-marks-requires c κs = search needs
+write-marks-requires c κs = (omega (arith, c .before .before .before .before .before .pre .0 .0), c .before .before .before .before .before .pre .1 .marks)
 
 write-factor-requires : tie.Need-write-factor-requires
-write-factor-requires c κs = search needs
+write-factor-requires c κs =
+    let h = c .before .before .before .before .before .before .before .before .before .pre in
+    let f = h .1 in
+    (omega (arith, h .0 .0, c .before .before .out .given, c .before .before .before .write-marks .ensures .1), ((f .order-length, f .amounts-length, f .factor-length), (f .order, f .amounts, f .factor)))
 
 same-length : tie.Need-same-length
-same-length c = search needs
+same-length c = c .before .out2 .given ∙ c .before .before .before .before .before .out .given
 
 returns : tie.Need-returns
 returns c =
