@@ -70,10 +70,6 @@ module _ (magnitude : Bool) (c : List Float) (h : 0 < length c) where
   unfolding bestOf
   best-is = range-ind (BestTo f (length c)) 0 (length c) (look magnitude c) _ (omega arith) (record { below = h; value = refl; top = λ i q. absurd (omega arith) }) look-step
 
-  index-is : largest magnitude c .index ≡ bestOf magnitude c .index
-  unfolding largest
-  index-is = refl
-
   -- the index is in range, and holds the largest
   pub largest-top : Top f (length c) (largest magnitude c .index)
   unfolding largest

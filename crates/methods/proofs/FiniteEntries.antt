@@ -15,8 +15,9 @@ use Rattle.matrix.proofs.EntryLaws.{Entries, same-entries}
 use Rattle.matrix.proofs.SwapLaws.{transpose, transpose-lt}
 use Rattle.methods.specs.Gmw81.{unitLower}
 use Rattle.methods.specs.Statements.{pivotMatrix, clearAfter, lowerTriangle}
+use Rattle.methods.specs.Elimination.{Stored}
 use Rattle.methods.proofs.Moved.{pivot-entries, pivot-at}
-use Rattle.methods.proofs.Stored.{Stored, stored}
+use Rattle.methods.proofs.Stored.{stored}
 
 pub record FiniteEntries (n : ℕ) (m : List Float) : Type 0 where
   pub entries : Entries n m

@@ -12,10 +12,11 @@ use Rattle.matrix.specs.Matrix.{at, zeros, cell-lt}
 use Rattle.matrix.proofs.EntryLaws.{Entries}
 use Rattle.matrix.proofs.Bijection.{Bijection, Fixes, bijection-from, stays-above, stays-after, injective}
 use Rattle.methods.specs.Gmw81.{divideRow, dot, column, thetaOf, updateDiagonal, start}
+use Rattle.methods.specs.Elimination.{Rest, Stored}
 use Rattle.methods.proofs.Tests.{Double}
 use Rattle.methods.proofs.Magnitudes.{largestMagnitude-along}
 use Rattle.methods.proofs.Moved.{Moved}
-use Rattle.methods.proofs.Stored.{Rest, Stored, stored}
+use Rattle.methods.proofs.Stored.{stored}
 use Rattle.methods.proofs.GmwLaws.{theta-is, diagonal-is}
 
 -- ---- sums of the same terms

@@ -19,7 +19,7 @@ use Rattle.matrix.specs.Table.{table, length-table, getD-table}
 use Rattle.matrix.proofs.EntryLaws.{Entries, put-entries, at-put-same, at-put-other, same-entries}
 use Rattle.matrix.proofs.SwapLaws.{transpose, Transposed, first, second, other, transposed, transpose-lt}
 use Rattle.methods.specs.Statements.{diagonalFrom, pivotMatrix, lowerTriangle}
-use Rattle.methods.specs.Elimination.{Symmetric, mirrored, mirrorRow, mirrorColumn}
+use Rattle.methods.specs.Elimination.{Symmetric, mirrored, mirrorRow, mirrorColumn, Stored}
 use Rattle.methods.specs.Se.{Run, state, lowered, foldNext, tmpOf, aiiMax, aiiMin, leavesBefore, rowSum, columnSum, bounds, updateBounds}
 use Rattle.methods.specs.declared.schnabel_eskow.Progress.{Progress}
 use Rattle.methods.specs.declared.schnabel_eskow.Tolerances.{Tolerances}
@@ -28,7 +28,7 @@ use Rattle.methods.specs.declared.schnabel_eskow.Variant.the-variants.{S
 use Rattle.methods.proofs.FiniteEntries.{triangle-same}
 use Rattle.methods.proofs.Moved.{pivot-entries, pivot-at, pivot-symmetric}
 use Rattle.methods.proofs.StatementLaws.{matrix-pivoted}
-use Rattle.methods.proofs.Stored.{Stored, stored}
+use Rattle.methods.proofs.Stored.{stored}
 
 -- ---- tables of the same values
 table-same : (k : ℕ) (f g : ℕ → Float) → ((i : ℕ) → i < k → f i ≡ g i) → table k f ≡ table k g

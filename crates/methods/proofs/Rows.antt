@@ -4,6 +4,7 @@ use mathlib.Core.List.{List}
 use mathlib.Core.Bool.{Bool, true, _&&_}
 use Prim.Native.Nat.{ℕ, _+_, _*_, _≤_, _<_}
 use native.Mathlib.Decide.{ℕ-discrete, decLt}
+use native.Mathlib.Numerals.{add-one}
 use native.Mathlib.Omega.{arith}
 use lib.ListN.{getD, set}
 use lib.Ieee.{Float, nan}
@@ -21,6 +22,7 @@ use Rattle.methods.proofs.Tests.{all-each, all-true, all-same}
 use Rattle.methods.proofs.Moved.{block-each, block-true}
 use Rattle.methods.proofs.Mirrored.{mirrored-entries, mirrored-lower, mirrored-upper, mirrored-symmetric, is-mirrored}
 use Rattle.methods.proofs.StatementLaws.{andTest}
+use Rattle.methods.proofs.Stored.{stored-none, stored-more}
 use Rattle.methods.proofs.Eliminated.{eliminated, eliminate-at, eliminate-entries, eliminate-symmetric, low-row, low-column, corner, in-column, inside, Side, side, before, is-j, after}
 
 -- ---- a test of each position, one more of them
@@ -35,37 +37,29 @@ all-more a k test ok ok' h e g = g ∙ ap (λ (b : Bool). b && test k) e ∙ sym
 -- ---- cells of a row or a column
 module _ (n a : ℕ) (row column : ℕ → ℕ) (f : ℕ → Float) (m : List Float) where
   pub cells-start : Entries n m → CellsWritten n a row column f m a m true
-  cells-start h = record { entries = h; done = λ k p q. absurd (omega arith); rest = λ x y px py k. refl; tested = all-none a (λ k. finite (f k)) }
+  cells-start h = record { stored = stored-none n a row column f m h; tested = all-none a (λ k. finite (f k)) }
 
   pub cells-end : (k b : ℕ) (l : List Float) (ok : Bool) → k ≤ b → b ≤ k → CellsWritten n a row column f m k l ok → CellsWritten n a row column f m b l ok
   cells-end k b l ok p q R = let e : k ≡ b = omega arith in rw e at R
 
   module _ (apart : (i k : ℕ) → row i ≡ row k → column i ≡ column k → i ≡ k) (k : ℕ) (ak : a ≤ k) (pr : row k < n) (pc : (i : ℕ) → i ≤ k → column i < n) where
+    earlier : (i : ℕ) → i < k → i ≡ k → ⊥
+    earlier i w d = omega arith
+
     cells-more : (l l' : List Float) (v : Float) (ok ok' : Bool) → CellsWritten n a row column f m k l ok → l' ≡ put n l (row k) (column k) v → v ≡ f k → ok' ≡ (ok && finite v)
         → CellsWritten n a row column f m (k + 1) l' ok'
     cells-more l l' v ok ok' R e g t =
-        let ck : column k < n = pc k (omega arith) in
-        rw e (record {
-          entries = put-entries n l (row k) (column k) v (R .entries);
-          done = λ i p q. elim (ℕ-discrete i k) [
-            | yes d ↦ rw d (at-put-same n l (row k) (column k) v (R .entries) pr ck ∙ g)
-            | no d ↦ at-put-other n l (row k) (column k) (row i) (column i) v ck (pc i (omega arith)) (λ u w. d (apart i k u w)) ∙ R .done i p (omega arith)
-          ];
-          rest = λ x y px py h. at-put-other n l (row k) (column k) x y v ck py (λ u w. h k ak (omega arith) u w) ∙ R .rest x y px py (λ i p q. h i p (omega arith));
-          tested = all-more a k (λ i. finite (f i)) ok ok' ak (R .tested) (t ∙ ap (λ (z : Float). ok && finite z) g);
-        })
+        let s = stored-more n a row column f m k l v ak pr (pc k (omega arith)) (λ i u w. pc i (omega arith)) (λ i u w b d. earlier i w (apart i k b d)) (R .stored) g in
+        rw e (record { stored = rw add-one s; tested = all-more a k (λ i. finite (f i)) ok ok' ak (R .tested) (t ∙ ap (λ (z : Float). ok && finite z) g) })
 
     -- the next place, at cell q, becomes op of what stands there
     pub cells-turn : (q : ℕ) (l : List Float) (op : Float → Float) (ok ok' : Bool) → q ≡ row k * n + column k → op (at n m (row k) (column k)) ≡ f k → CellsWritten n a row column f m k l ok
         → ok' ≡ (ok && finite (op (getD l q nan))) → (op (getD l q nan) ≡ f k) × CellsWritten n a row column f m (k + 1) (set l q (op (getD l q nan))) ok'
     cells-turn q l op ok ok' here is-f R t =
         let v = op (getD l q nan) in
-        let kept : at n l (row k) (column k) ≡ at n m (row k) (column k) = R .rest (row k) (column k) pr (pc k (omega arith)) (λ i p w c d. before i w (apart k i c d)) in
+        let kept : at n l (row k) (column k) ≡ at n m (row k) (column k) = R .stored .rest (row k) (column k) pr (pc k (omega arith)) (λ i p w c d. earlier i w (sym (apart k i c d))) in
         let e : v ≡ f k = ap (λ (z : ℕ). op (getD l z nan)) here ∙ ap op kept ∙ is-f in
         (e, cells-more l (set l q v) v ok ok' R (ap (λ (z : ℕ). set l z v) here) e t)
-      where
-        before : (i : ℕ) → i < k → k ≡ i → ⊥
-        before i w d = omega arith
 
 -- ---- the rows after j
 module _ (n j : ℕ) (c m : List Float) where
@@ -83,12 +77,12 @@ module _ (n j : ℕ) (c m : List Float) where
 
     pub rows-more : (ok₂ ok' : Bool) → RowWritten n i (j + 1) (subtracted n l c i) l (i + 1) l' ok₂ → ok' ≡ (ok && ok₂) → RowsEliminated n j c m (i + 1) l' ok'
     rows-more ok₂ ok' W t = record {
-      entries = W .entries;
+      entries = W .stored .entries;
       done = λ x y p q u w. elim (ℕ-discrete x i) [
-        | yes d ↦ rw d (W .done y (omega arith) (omega arith) ∙ value y u (omega arith))
-        | no d ↦ W .rest x y (omega arith) (omega arith) (λ k a b z o. d z) ∙ R .done x y p (omega arith) u w
+        | yes d ↦ rw d (W .stored .done y (omega arith) (omega arith) ∙ value y u (omega arith))
+        | no d ↦ W .stored .rest x y (omega arith) (omega arith) (λ k a b z o. d z) ∙ R .done x y p (omega arith) u w
       ];
-      rest = λ x y px py h. W .rest x y px py (λ k a b z o. h (omega arith) (omega arith) (omega arith) (omega arith)) ∙ R .rest x y px py (λ u p q o. h u (omega arith) q o);
+      rest = λ x y px py h. W .stored .rest x y px py (λ k a b z o. h (omega arith) (omega arith) (omega arith) (omega arith)) ∙ R .rest x y px py (λ u p q o. h u (omega arith) q o);
       tested = all-more (j + 1) i (λ x. all (j + 1) (x + 1) (λ y. finite (subtracted n m c x y))) ok ok' (omega arith) (R .tested)
           (t ∙ ap (λ (b : Bool). ok && b) (W .tested ∙ all-same (j + 1) (i + 1) (λ y. finite (subtracted n l c i y)) (λ y. finite (subtracted n m c i y)) (omega arith) (λ y p q. ap finite (value y (omega arith) (omega arith)))));
     }
@@ -112,19 +106,19 @@ module _ (n j : ℕ) (m l₁ l₂ l₃ c : List Float) (r : Float) (ok₂ ok₃ 
   quotient x p q = ap (λ (v : Float). v ⊘ r) (rooted x j q (omega arith) (λ u w. omega arith))
 
   corner-j : at n l₃ j j ≡ r
-  corner-j = R .rest j j pj pj (λ u w z o. omega arith) ∙ W .rest j j pj pj (λ k u w z o. omega arith) ∙ root-at
+  corner-j = R .rest j j pj pj (λ u w z o. omega arith) ∙ W .stored .rest j j pj pj (λ k u w z o. omega arith) ∙ root-at
 
   column-at : (x : ℕ) → j < x → x < n → at n l₃ x j ≡ at n l₁ x j ⊘ r
-  column-at x p q = R .rest x j q pj (λ u w z o. omega arith) ∙ W .done x (omega arith) q
+  column-at x p q = R .rest x j q pj (λ u w z o. omega arith) ∙ W .stored .done x (omega arith) q
 
   outside : (x y : ℕ) → x < n → y ≤ x → (j ≤ x → j ≤ y → ⊥) → at n l₃ x y ≡ at n M x y
   outside x y px yx k =
-      R .rest x y px (omega arith) (λ u w z o. k (omega arith) (omega arith)) ∙ W .rest x y px (omega arith) (λ i u w z o. k (omega arith) (omega arith)) ∙ rooted x y px yx (λ u w. k (omega arith) (omega arith))
+      R .rest x y px (omega arith) (λ u w z o. k (omega arith) (omega arith)) ∙ W .stored .rest x y px (omega arith) (λ i u w z o. k (omega arith) (omega arith)) ∙ rooted x y px yx (λ u w. k (omega arith) (omega arith))
 
   block : (x y : ℕ) → j < y → y ≤ x → x < n → at n l₃ x y ≡ at n M x y ⊖ (at n M x j ⊘ r) ⊗ (at n M y j ⊘ r)
   block x y p yx px =
       R .done x y (omega arith) px p yx
-      ∙ ap₂ _⊖_ (W .rest x y px (omega arith) (λ k u w z o. omega arith) ∙ rooted x y px yx (λ u w. omega arith))
+      ∙ ap₂ _⊖_ (W .stored .rest x y px (omega arith) (λ k u w z o. omega arith) ∙ rooted x y px yx (λ u w. omega arith))
       (ap₂ _⊗_ (C x (omega arith) px ∙ quotient x (omega arith) px) (C y (omega arith) (omega arith) ∙ quotient y p (omega arith)))
 
   each : (x y : ℕ) → x < n → y ≤ x → at n l₃ x y ≡ eliminated (at n M) j r x y

@@ -23,8 +23,9 @@ use Rattle.matrix.proofs.Bijection.{same-tests}
 use Rattle.matrix.proofs.EntryLaws.{Entries, same-entries}
 use Rattle.methods.specs.Gmw81.{doutOf, product, scaledFinite}
 use Rattle.methods.specs.Statements.{all}
+use Rattle.methods.specs.Elimination.{Stored}
 use Rattle.methods.proofs.Tests.{all-each, all-true}
-use Rattle.methods.proofs.Stored.{Stored, stored}
+use Rattle.methods.proofs.Stored.{stored}
 use Rattle.methods.proofs.Zeros.{times-zero}
 use Rattle.methods.proofs.OneTerm.{one-term}
 use Rattle.methods.proofs.FiniteEntries.{zero-finite}

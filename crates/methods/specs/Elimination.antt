@@ -31,11 +31,19 @@ unfoldable pub mirrorColumn : ℕ → ℕ → ℕ → List Float → List Float
 unfolding range
 mirrorColumn n j q l = range j q (λ i m. put n m i q (at n m q i)) l
 
--- l is m with f k at (row k, column k), k from a to b - 1; ok: whether these are finite
-pub record CellsWritten (n a : ℕ) (row column : ℕ → ℕ) (f : ℕ → Float) (m : List Float) (b : ℕ) (l : List Float) (ok : Bool) : Type 0 where
+-- l is m but at the cells (row k, column k), k from a to b - 1
+abbrev pub Rest : ℕ → ℕ → (ℕ → ℕ) → (ℕ → ℕ) → List Float → ℕ → List Float → Type 0
+Rest n a row column m b l = (x y : ℕ) → x < n → y < n → ((k : ℕ) → a ≤ k → k < b → x ≡ row k → y ≡ column k → ⊥) → at n l x y ≡ at n m x y
+
+-- .. where it has f k
+pub record Stored (n a : ℕ) (row column : ℕ → ℕ) (f : ℕ → Float) (m : List Float) (b : ℕ) (l : List Float) : Type 0 where
   pub entries : length l ≡ n * n
   pub done : (k : ℕ) → a ≤ k → k < b → at n l (row k) (column k) ≡ f k
-  pub rest : (x y : ℕ) → x < n → y < n → ((k : ℕ) → a ≤ k → k < b → x ≡ row k → y ≡ column k → ⊥) → at n l x y ≡ at n m x y
+  pub rest : Rest n a row column m b l
+
+-- .. ok: whether these are finite
+pub record CellsWritten (n a : ℕ) (row column : ℕ → ℕ) (f : ℕ → Float) (m : List Float) (b : ℕ) (l : List Float) (ok : Bool) : Type 0 where
+  pub stored : Stored n a row column f m b l
   pub tested : ok ≡ all a b (λ k. finite (f k))
 
 -- the places a to b - 1 of row i, and of column j

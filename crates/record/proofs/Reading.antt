@@ -12,7 +12,7 @@ use lib.Ieee.Bits.{ofBits-toBits, toBits-lt}
 use Rattle.arithmetic.specs.Outcome.{_then_}
 use Rattle.matrix.specs.Checks.{check-size, check-finite, check-symmetric}
 use Rattle.methods.specs.Calls.{check-method}
-use Rattle.record.specs.Bytes.{number, bytes, double, doubles, content-of}
+use Rattle.record.specs.Bytes.{number, bytes, doubles, content-of}
 use Rattle.record.specs.MatrixRecord.{matrix-record, matrixOf, well-formed, check-entries, length-checks, record-checks}
 use Rattle.record.proofs.Fields.{record-length, record-size, record-method, record-entries, record-well-formed}
 use Rattle.record.proofs.ByteLaws.{length-bytes, length-content}
@@ -28,10 +28,6 @@ number-bytes (suc k) v h =
 module _ (x : Float) (h : T (fits binary64 x)) where
   pub pattern-of : number (bytes 8 (toBits binary64 x)) ≡ toBits binary64 x
   pattern-of = number-bytes 8 (toBits binary64 x) (toBits-lt binary64 x h)
-
-  pub double-of : double (bytes 8 (toBits binary64 x)) ≡ x
-  unfolding double
-  double-of = rw (pattern-of, ofBits-toBits binary64 x h)
 
 -- the bytes of one double of a content
 content-at : (xs : List Float) (k : ℕ) → k < length xs → take 8 (drop (8 * k) (content-of xs)) ≡ bytes 8 (toBits binary64 (getD xs k nan))
