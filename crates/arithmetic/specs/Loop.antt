@@ -47,6 +47,11 @@ range-ind P a b body s le z h =
     (times-ind (λ k t. P (a + k) t) (b - a) (λ k. body (a + k)) s (subst (λ (x : ℕ). P x s) (omega arith) z)
     (λ k l t p. subst (λ (x : ℕ). P x (body (a + k) t)) (omega arith) (h (a + k) (omega arith) (omega arith) t p)))
 
+-- a loop in code left before its end, where the turns that remain change nothing
+pub loop-rest : {S : Type 0} (a i n : ℕ) (body : ℕ → S → S) (s₀ s : S) → a ≤ i → i ≤ n → s ≡ range a i body s₀ → ((k : ℕ) → i ≤ k → k < n → body k s ≡ s) → s ≡ range a n body s₀
+loop-rest a i n body s₀ s h q e same =
+    range-ind (λ k t. s ≡ range a k body s₀) i n (λ k t. t) s q e (λ k u w t p. subst (λ (x : ℕ). s ≡ range a x body s₀) (omega arith) (loop-turn a k body s₀ s s (omega arith) p (sym (same k u w))))
+
 -- ---- induction over two loops in step
 times2-ind : {S S' : Type 0} (R : ℕ → S → S' → Type 0) (m : ℕ) (f : ℕ → S → S) (g : ℕ → S' → S') (s : S) (s' : S') → R 0 s s'
     → ((k : ℕ) → k < m → (t : S) (t' : S') → R k t t' → R (suc k) (f k t) (g k t')) → R m (times m f s) (times m g s')

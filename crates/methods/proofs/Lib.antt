@@ -3,6 +3,8 @@ pub mod Magnitudes
 pub mod Moved
 pub mod Eliminated
 pub mod Mirrored
+pub mod LastBlock
+pub mod SwappedBelow
 pub mod Rows
 pub mod PhaseOne
 pub mod Reordered

@@ -9,7 +9,8 @@ use lib.Ieee.{Float, nan}
 use lib.Ieee.Scale.{finite}
 use Rattle.arithmetic.specs.Double.{_⊖_, _⊗_}
 use Rattle.arithmetic.specs.Loop.{range}
-use Rattle.matrix.specs.Matrix.{at, put}
+use Rattle.matrix.specs.Matrix.{at}
+use Rattle.matrix.specs.Swap.{swap}
 use Rattle.matrix.specs.Table.{table}
 use Rattle.methods.specs.Statements.{all}
 
@@ -21,15 +22,20 @@ unfoldable pub mirrored : ℕ → List Float → List Float
 unfolding table
 mirrored n m = table (n * n) (λ k. cond (leb (k % n) (k / n)) (at n m (k / n) (k % n)) (at n m (k % n) (k / n)))
 
--- row i after i becomes column i
-unfoldable pub mirrorRow : ℕ → ℕ → List Float → List Float
+-- rows j and q before column j change places
+unfoldable pub swapLeft : ℕ → ℕ → ℕ → List Float → List Float
 unfolding range
-mirrorRow n i l = range (i + 1) n (λ k m. put n m i k (at n m k i)) l
+swapLeft n j q l = range 0 j (λ k m. swap nan m (j * n + k) (q * n + k)) l
 
--- column q from row j to row q - 1 becomes row q
-unfoldable pub mirrorColumn : ℕ → ℕ → ℕ → List Float → List Float
+-- column j and row q between rows j and q
+unfoldable pub swapBetween : ℕ → ℕ → ℕ → List Float → List Float
 unfolding range
-mirrorColumn n j q l = range j q (λ i m. put n m i q (at n m q i)) l
+swapBetween n j q l = range (j + 1) q (λ k m. swap nan m (k * n + j) (q * n + k)) l
+
+-- columns j and q below row q
+unfoldable pub swapBelow : ℕ → ℕ → ℕ → List Float → List Float
+unfolding range
+swapBelow n j q l = range (q + 1) n (λ k m. swap nan m (k * n + j) (k * n + q)) l
 
 -- l is m but at the cells (row k, column k), k from a to b - 1
 abbrev pub Rest : ℕ → ℕ → (ℕ → ℕ) → (ℕ → ℕ) → List Float → ℕ → List Float → Type 0

@@ -1,15 +1,15 @@
 // What SE90 and SE99 share of phase one.
 ghost use mathlib.Core.Path.{_≡_};
 ghost use mathlib.Core.List.{List};
-ghost use mathlib.Core.Bool.{Bool, cond, not};
-ghost use Prim.Native.Nat.{ℕ, _+_, _-_, _*_, _<_, _≤_};
+ghost use mathlib.Core.Bool.{Bool, cond, not, _||_};
+ghost use Prim.Native.Nat.{ℕ, _+_, _*_, _<_};
 ghost use lib.ListN.{length};
 ghost use lib.Ieee.{Float, lt};
 ghost use Rattle.matrix.specs.Matrix.{Square};
-ghost use Rattle.methods.specs.Marks.{mark};
+ghost use Rattle.methods.specs.Marks.{mark, marked};
 ghost use Rattle.methods.specs.Statements.{pivotMatrix, pivotList};
 ghost use Rattle.methods.specs.Elimination.{mirrored};
-ghost use Rattle.methods.specs.Se.{state, start, foldNext, tmpOf, aiiMax, aiiMin, leavesBefore, leavesAfter, leave, pivot, factorize, stepAt, phaseOneStep, inPhaseOne, phaseOne};
+ghost use Rattle.methods.specs.Se.{state, start, foldNext, tmpOf, aiiMax, aiiMin, leavesBefore, leavesAfter, leave, pivot, factorize, stepAt, phaseOneStep, phaseOne};
 use arithmetic::double::square;
 use matrix::entries::clear;
 use matrix::entries::get;
@@ -227,21 +227,25 @@ fn phase_one_step(
 ) -> Progress
     requires { ⌜ Square n (now l) ⌝ }
     requires { ⌜ (length (now p) ≡ n) × (length (now diag) ≡ n) × (j < n) ⌝ }
-    ensures { λ q. ⌜ ((e g : List Float) → state (mirrored n (now (l .exit))) e g (now (p .exit)) q ≡ inPhaseOne v t gamma n j (state (mirrored n (now (l .entry))) e g (now (p .entry)) r)) ⌝ }
+    ensures { λ q. ⌜ ((e g : List Float) → state (mirrored n (now (l .exit))) e g (now (p .exit)) q ≡ phaseOneStep v t gamma n j (state (mirrored n (now (l .entry))) e g (now (p .entry)) r)) ⌝ }
 {
-    let phase2 = r.phase2;
-    let refused = r.refused;
-    if phase2.marked() {
-        return r;
-    }
-    if refused.marked() {
-        return r;
-    }
     if leaves_before(v, t, gamma, l, n, j) {
         return leave(r, j);
     }
     let f = statements::search_diagonal(false, l, n, j, diag);
     step_at(v, t, gamma, l, p, n, j, f.index, f.tied, r)
+}
+
+// Whether phase one was left or a step refused.
+fn stopped(r: Progress) -> bool
+    ensures { λ b. ⌜ b ≡ (marked (r .phase2) || marked (r .refused)) ⌝ }
+{
+    let phase2 = r.phase2;
+    let refused = r.refused;
+    if phase2.marked() {
+        return true;
+    }
+    refused.marked()
 }
 
 pub fn phase_one(
@@ -260,6 +264,9 @@ pub fn phase_one(
 {
     let mut q = r;
     for j in 0..n {
+        if stopped(q) {
+            return q;
+        }
         q = phase_one_step(v, t, gamma, l, p, diag, n, j, q);
     }
     q

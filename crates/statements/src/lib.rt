@@ -10,7 +10,7 @@ ghost use Rattle.matrix.specs.Matrix.{Square, at};
 ghost use Rattle.matrix.specs.Search.{largest};
 ghost use Rattle.matrix.specs.Plain.{AllBelow};
 ghost use Rattle.methods.specs.Statements.{largerMagnitude, diagonalMax, diagonalFrom, pivotMatrix, pivotList, eliminate, clearAfter, lowerTriangle, reorder, all, blockFinite};
-ghost use Rattle.methods.specs.Elimination.{mirrored, mirrorRow, mirrorColumn, RowWritten, ColumnWritten, RowsEliminated, subtracted};
+ghost use Rattle.methods.specs.Elimination.{mirrored, swapLeft, swapBetween, swapBelow, RowWritten, ColumnWritten, RowsEliminated, subtracted};
 ghost use Rattle.methods.specs.Result.{identity};
 use arithmetic::double::abs;
 use arithmetic::double::finite;
@@ -99,40 +99,42 @@ pub fn pivot_list(g: &mut [f64], j: usize, max_idx: usize)
 
 // ---- symmetric matrices: they are held on and below the diagonal, and what stands above it may be old
 
-// Row i after i becomes column i.
-fn mirror_row(l: &mut [f64], n: usize, i: usize)
+// Rows j and q before column j.
+fn swap_left(l: &mut [f64], n: usize, j: usize, q: usize)
     requires { ⌜ Square n (now l) ⌝ }
-    requires { ⌜ i < n ⌝ }
-    ensures { λ _. ⌜ now (l .exit) ≡ mirrorRow n i (now (l .entry)) ⌝ }
+    requires { ⌜ (j < q) × (q < n) ⌝ }
+    ensures { λ _. ⌜ now (l .exit) ≡ swapLeft n j q (now (l .entry)) ⌝ }
 {
-    let a = i + 1;
+    for k in 0..j {
+        utils::swap(l, cell(n, j, k), cell(n, q, k));
+    }
+}
+
+// Column j and row q between them.
+fn swap_between(l: &mut [f64], n: usize, j: usize, q: usize)
+    requires { ⌜ Square n (now l) ⌝ }
+    requires { ⌜ (j < q) × (q < n) ⌝ }
+    ensures { λ _. ⌜ now (l .exit) ≡ swapBetween n j q (now (l .entry)) ⌝ }
+{
+    let a = j + 1;
+    for k in a..q {
+        utils::swap(l, cell(n, k, j), cell(n, q, k));
+    }
+}
+
+// Columns j and q below row q.
+fn swap_below(l: &mut [f64], n: usize, j: usize, q: usize)
+    requires { ⌜ Square n (now l) ⌝ }
+    requires { ⌜ (j < q) × (q < n) ⌝ }
+    ensures { λ _. ⌜ now (l .exit) ≡ swapBelow n j q (now (l .entry)) ⌝ }
+{
+    let a = q + 1;
     for k in a..n {
-        put(l, n, i, k, get(l, n, k, i));
+        utils::swap(l, cell(n, k, j), cell(n, k, q));
     }
 }
 
-// Column q, from row j to above the diagonal, becomes row q.
-fn mirror_column(l: &mut [f64], n: usize, j: usize, q: usize)
-    requires { ⌜ Square n (now l) ⌝ }
-    requires { ⌜ (j ≤ q) × (q < n) ⌝ }
-    ensures { λ _. ⌜ now (l .exit) ≡ mirrorColumn n j q (now (l .entry)) ⌝ }
-{
-    for i in j..q {
-        put(l, n, i, q, get(l, n, q, i));
-    }
-}
-
-// The whole matrix.
-pub fn mirror(l: &mut [f64], n: usize)
-    requires { ⌜ Square n (now l) ⌝ }
-    ensures { λ _. ⌜ now (l .exit) ≡ mirrored n (now (l .entry)) ⌝ }
-{
-    for i in 0..n {
-        mirror_row(l, n, i);
-    }
-}
-
-// What the swaps bring below the diagonal is mirrored first.
+// Rows and columns j and q change places, on and below the diagonal.
 pub fn pivot_symmetric(l: &mut [f64], n: usize, j: usize, max_idx: usize)
     requires { ⌜ Square n (now l) ⌝ }
     requires { ⌜ j + «max_idx» < n ⌝ }
@@ -140,10 +142,10 @@ pub fn pivot_symmetric(l: &mut [f64], n: usize, j: usize, max_idx: usize)
 {
     if max_idx != 0 {
         let q = j + max_idx;
-        mirror_row(l, n, j);
-        mirror_column(l, n, j, q);
-        utils::swap_rows(l, n, j, q);
-        utils::swap_columns(l, n, j, q);
+        swap_left(l, n, j, q);
+        utils::swap(l, cell(n, j, j), cell(n, q, q));
+        swap_between(l, n, j, q);
+        swap_below(l, n, j, q);
     }
 }
 
