@@ -1,6 +1,6 @@
 -- Twice as many digits of a root by one division, after Zimmermann, Karatsuba Square Root, 1999.
 -- With s * s + d the number so far and d * b = 2 * s * q + m: the number times b * b is (s * b + q) ^ 2 + m * b - q * q.
-use mathlib.Core.Path.{_≡_, ap, _∙_}
+use mathlib.Core.Path.{_≡_, ap}
 use Prim.Native.Nat.{ℕ, suc, _+_, _*_, _/_, _%_, _^_, _≤_, _<_}
 use native.Mathlib.Omega.{arith}
 use native.Mathlib.Nat.{le-trans, lt-of-le-of-lt, le-of-lt, le-of-suc-le-suc, suc-mul, mul-le-mul, mul-le-mul-right, mul-add, add-mul, mul-assoc, mul-comm, mul-left-comm, mod-lt, div-add-mod', div-lt-iff-lt-mul}

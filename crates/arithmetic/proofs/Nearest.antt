@@ -1,8 +1,8 @@
 -- The root is correctly rounded: `sqrt-nearest`. And what later proofs ask of it: it is a double, and a negative number has none.
 use mathlib.Core.Path.{_≡_, refl, sym, ap, _∙_, subst}
-use mathlib.Core.Bool.{Bool, true, false, cond, true≢false, false≢true}
+use mathlib.Core.Bool.{Bool, true, false, cond, false≢true}
 use mathlib.Core.Logic.{inl, inr, _⊎_}
-use Prim.Native.Nat.{ℕ, zero, suc, _+_, _-_, _*_, _/_, _%_, _^_, _≤_, _<_}
+use Prim.Native.Nat.{ℕ, zero, suc, _+_, _-_, _*_, _/_, _%_, _^_, _<_}
 use native.Mathlib.Omega.{arith}
 use native.Mathlib.Nat.{eq-zero-or-pos, eq-or-lt-of-le, mul-assoc, mul-left-comm, mul-pos, zero-mul, zero-div, zero-lt-suc}
 use lib.IntN.{ℤ}
@@ -22,7 +22,7 @@ use Rattle.arithmetic.specs.Same.{signOf}
 use Rattle.arithmetic.specs.Sqrt.{magnitudeOf, magnitude, nearestTo, rootOf, sqrt, isqrt}
 use Rattle.arithmetic.specs.SqrtStages.{Significand, Remainder, WholeRoot, front}
 use Rattle.arithmetic.specs.Nearest.{Nearer, NotNegative, NearestRoot}
-use Rattle.arithmetic.proofs.Operand.{Zero, zero-of, Negative, negative-value, negative-inf, negative-of, fails}
+use Rattle.arithmetic.proofs.Operand.{Zero, zero-of, negative-value, fails}
 use Rattle.arithmetic.proofs.WholeRoot.{Whole, isqrt-whole, sq-step}
 use Rattle.arithmetic.proofs.Written.{nearest-is, even-digit, cut-digit}
 use Rattle.arithmetic.proofs.Packing.{units-value, magnitude-is}

@@ -6,7 +6,7 @@ use native.Mathlib.Omega.{arith}
 use native.Mathlib.Nat.{mul-pos, zero-mul, zero-lt-suc}
 use lib.IntN.{ℤ}
 use lib.Dec.{T, eqb, ltb, eqb→eq, ltb→lt, lt→ltb, eqb-refl}
-use lib.Ieee.{Float, nan, inf, fin, binary64, ofBits, up, down, neg, add, sub, sum, round, lt, eq, ne, level, isNan, fits}
+use lib.Ieee.{Float, nan, inf, fin, binary64, ofBits, up, down, neg, add, sub, sum, round, lt, le, eq, ne, level, isNan, fits}
 use lib.Ieee.Bits.{is-true}
 use lib.Ieee.Fits.{up-pos, down-pos, and-l}
 use lib.Ieee.Scale.{finite, round-same}
@@ -120,12 +120,12 @@ zero-round : (c : ℕ) → 0 < c → round binary64 false 0 c ≡ plus-zero
 unfolding ofBits round
 zero-round c h = sym (round-same binary64 false 0 1 0 c (omega arith) h (omega arith))
 
-pub finite-difference : (x : Float) → eq (sub binary64 x x) plus-zero ≡ finite x
-unfolding eq sub add neg sum ofBits
+pub finite-difference : (x : Float) → le (sub binary64 x x) plus-zero ≡ finite x
+unfolding lt le eq sub add neg sum ofBits
 finite-difference nan = refl
 finite-difference (inf true) = refl
 finite-difference (inf false) = refl
-finite-difference (fin s m e) = subst (λ (z : Float). eq z plus-zero ≡ true) (sym (difference s)) refl
+finite-difference (fin s m e) = subst (λ (z : Float). le z plus-zero ≡ true) (sym (difference s)) refl
   where
     a : ℕ
     a = m * up e * down e

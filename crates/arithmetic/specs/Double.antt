@@ -1,7 +1,7 @@
 -- Doubles as document 01's section 'Arithmetic' fixes them. `Float`, its comparisons and its four operations are the library's
 -- account of IEEE 754 (lib.Ieee): every operation rounds once to nearest, ties to even. `finite` is lib.Ieee.Scale's.
 use mathlib.Core.Path.{_≡_, refl}
-use mathlib.Core.Bool.{true, false, _||_, cond}
+use mathlib.Core.Bool.{false, _||_, cond}
 use lib.IntN.{pos, negsuc}
 use lib.Ieee.{Float, nan, inf, fin, binary64, ofBits, add, sub, mul, div, lt, isNan}
 

@@ -2,6 +2,7 @@ pub mod Double
 pub mod Loop
 pub mod First
 pub mod Order
+pub mod All
 pub mod Same
 pub mod Sign
 pub mod Outcome

@@ -1,5 +1,5 @@
 -- Loops: `range a b body s` does body a, body (a + 1), .., body (b - 1) in turn, from s. Their laws and induction principles.
-use mathlib.Core.Path.{_≡_, refl, sym, ap, _∙_, subst}
+use mathlib.Core.Path.{_≡_, sym, ap, _∙_, subst}
 use Prim.Native.Nat.{ℕ, zero, suc, _+_, _-_, _≤_, _<_}
 use native.Mathlib.Omega.{arith}
 

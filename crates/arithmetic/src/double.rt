@@ -8,11 +8,11 @@ ghost use Rattle.arithmetic.specs.Double.{plus-zero, abs, max, min, squa
 // 2^-52
 pub const EPSILON: f64 = 2.220446049250313e-16;
 
-// Neither infinite nor NaN: the difference from itself is zero.
+// Neither infinite nor NaN: the difference from itself is then +0.0, and NaN otherwise. `<=` is one test of the machine, `==` two.
 pub fn finite(x: f64) -> bool
     ensures { λ r. ⌜ r ≡ finite x ⌝ }
 {
-    x - x == 0.0
+    x - x <= 0.0
 }
 
 // -0.0 becomes +0.0.

@@ -1,6 +1,6 @@
 // src/gershgorin.rs: the Gershgorin circles of a matrix.
 ghost use mathlib.Core.Path.{_≡_};
-ghost use Prim.Native.Nat.{_+_, _*_, _<_, _≤_};
+ghost use Prim.Native.Nat.{_+_, _<_};
 ghost use lib.ListN.{length};
 ghost use Rattle.matrix.specs.Matrix.{Square};
 ghost use Rattle.matrix.specs.Circles.{addMagnitudes, sums, overflows};

@@ -5,6 +5,7 @@ ghost use Prim.Native.Nat.{_+_, _-_, _*_, _<_, _≤_};
 ghost use lib.ListN.{length, getD};
 ghost use lib.Ieee.{Float, nan};
 ghost use lib.Ieee.Scale.{finite};
+ghost use Rattle.arithmetic.specs.All.{all};
 ghost use Rattle.arithmetic.specs.Double.{plus-zero, one, _⊕_, _⊗_};
 ghost use Rattle.arithmetic.specs.Loop.{range};
 ghost use Rattle.arithmetic.specs.Sqrt.{sqrt};
@@ -12,7 +13,6 @@ ghost use Rattle.matrix.specs.Checks.{AllFinite};
 ghost use Rattle.matrix.specs.Matrix.{Square, at, put, zeros};
 ghost use Rattle.matrix.specs.Plain.{AllBelow};
 ghost use Rattle.matrix.specs.Table.{table};
-ghost use Rattle.methods.specs.Statements.{all};
 ghost use Rattle.methods.specs.Gmw81.{Stepped, Finished, foldOffDiagonal, foldRow, offDiagonalMax, deltaOf, betaOf, state, start, divideRow, dot, column, thetaOf, dOf, updateDiagonal, storedFinite, stepAt, step, doutOf, unitLower, product, scaledFinite};
 ghost use Rattle.methods.specs.declared.decomposition.Mark.the-variants.{Never};
 use arithmetic::double;
@@ -21,6 +21,7 @@ use arithmetic::double::finite;
 use arithmetic::double::max;
 use arithmetic::double::square;
 use arithmetic::sqrt::sqrt;
+use matrix::checks::list_finite;
 use matrix::entries::clear;
 use matrix::entries::get;
 use matrix::entries::put;
@@ -407,7 +408,7 @@ fn scale(l: &mut [f64], d: &mut [f64], n: usize) -> bool
     unit_diagonal(l, n);
     statements::lower_triangle(l, n);
     scale_rows(l, d, n);
-    both(statements::list_finite(d, 0), statements::list_finite(l, 0))
+    both(list_finite(d, 0), list_finite(l, 0))
 }
 
 pub fn finish(

@@ -1,6 +1,6 @@
 -- The fourteen hand calculations, by computation of the definitions; and the cases outside the table.
 use mathlib.Core.Path.{_≡_, refl}
-use mathlib.Core.List.{List, [], _∷_}
+use mathlib.Core.List.{[], _∷_}
 use lib.Ieee.{add, sub, mul, div, lt, eq, neg, isNan, ofBits}
 use Rattle.arithmetic.specs.First.{firstFrom}
 use Rattle.arithmetic.specs.Sqrt.{checked-sqrt}
@@ -9,7 +9,7 @@ use Rattle.matrix.specs.Checks.{check-size}
 use Rattle.matrix.specs.Search.{largest}
 use Rattle.matrix.specs.Eigenvalues.{eigenvaluesOf}
 use Rattle.matrix.specs.Circles.{written, firstOverflow}
-use Rattle.matrix.specs.Calls.{search-checks, eigen-checks, checked-eigenvalues-2x2, circle-checks}
+use Rattle.matrix.specs.Calls.{search-checks, checked-eigenvalues-2x2, circle-checks}
 use Rattle.methods.specs.Factor.{se, factor, tolerances}
 use Rattle.methods.specs.declared.decomposition.Mark.the-variants.{Step}
 use Rattle.methods.specs.declared.schnabel_eskow.Variant.the-variants.{Se99}

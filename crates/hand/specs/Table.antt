@@ -9,14 +9,9 @@ use Rattle.arithmetic.specs.Double.{plus-zero}
 use Rattle.arithmetic.specs.Sqrt.{checked-sqrt}
 use Rattle.arithmetic.specs.declared.outcome.Outcome.{Outcome}
 use Rattle.arithmetic.specs.declared.outcome.Outcome.the-variants.{Complete, StoredNotFinite}
-use Rattle.arithmetic.specs.declared.sqrt.SqrtAnswer.{SqrtAnswer}
 use Rattle.matrix.specs.Matrix.{zeros}
-use Rattle.matrix.specs.Calls.{checked-eigenvalues-2x2, checked-gershgorin-circles, CirclesCall, circlesCall, checked-search}
-use Rattle.matrix.specs.declared.utils.EigenAnswer.{EigenAnswer}
-use Rattle.matrix.specs.declared.utils.SearchAnswer.{SearchAnswer}
-use Rattle.methods.specs.Result.{Result}
+use Rattle.matrix.specs.Calls.{checked-eigenvalues-2x2, checked-gershgorin-circles, circlesCall, checked-search}
 use Rattle.methods.specs.Factor.{Method, gmw81, se, factor, tolerances}
-use Rattle.methods.specs.declared.decomposition.Decomposition.{Decomposition}
 use Rattle.methods.specs.declared.decomposition.Mark.{Mark}
 use Rattle.methods.specs.declared.decomposition.Mark.the-variants.{Never, Step}
 use Rattle.methods.specs.declared.schnabel_eskow.Variant.the-variants.{Se90}

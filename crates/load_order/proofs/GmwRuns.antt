@@ -9,6 +9,7 @@ use lib.Ieee.{Float, nan, isNan}
 use lib.Ieee.Fits.{sub-fits}
 use lib.Ieee.Scale.{finite}
 use lib.Ieee.{binary64}
+use Rattle.arithmetic.specs.All.{all, all-each}
 use Rattle.arithmetic.specs.Double.{plus-zero, _⊖_}
 use Rattle.arithmetic.specs.Loop.{range, range2-ind}
 use Rattle.arithmetic.specs.Order.{finite-number}
@@ -16,11 +17,11 @@ use Rattle.matrix.specs.Matrix.{at}
 use Rattle.matrix.specs.Search.{largest}
 use Rattle.matrix.proofs.Bijection.{Is, is, holds, fails, Bijection, Fixes, bijection-from}
 use Rattle.methods.specs.Marks.{mark, marked}
-use Rattle.methods.specs.Statements.{diagonalMax, diagonalFrom, pivotMatrix, pivotList, reorder, all}
+use Rattle.methods.specs.Statements.{diagonalMax, diagonalFrom, pivotMatrix, pivotList, reorder}
 use Rattle.methods.specs.Gmw81.{Run, start, divideRow, column, dot, thetaOf, dOf, updateDiagonal, storedFinite, stepAt, step, doutOf, unitLower, product, scaledFinite, finish, run, offDiagonalMax, deltaOf, betaOf}
 use Rattle.methods.specs.declared.decomposition.Mark.{Mark}
 use Rattle.methods.specs.declared.decomposition.Mark.the-variants.{Never, Step}
-use Rattle.methods.proofs.Tests.{Double, all-each, all-same, all-along}
+use Rattle.methods.proofs.Tests.{Double, all-same, all-along}
 use Rattle.methods.proofs.Magnitudes.{offDiagonalMax-along}
 use Rattle.methods.proofs.Moved.{Moved, moved-same, pivot-moved}
 use Rattle.methods.proofs.Reordered.{reorder-along}

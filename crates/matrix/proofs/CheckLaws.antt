@@ -13,7 +13,8 @@ use lib.Dec.{T, eqb, leb, ltb}
 use lib.Ieee.{Float, nan, binary64, toBits, ofBits, fits}
 use lib.Ieee.Bits.{ofBits-toBits}
 use lib.Ieee.Scale.{finite}
-use borrow.Author.Tests.{not-true, not-false, eqb-true, eqb-false, eq-eqb, ne-eqb, ltb-false, lt-ltb, le-ltb, leb-false, le-leb, lt-leb}
+use borrow.Author.Tests.{not-true, not-false, eqb-true, eqb-false, eq-eqb, ne-eqb, ltb-false, lt-ltb, le-ltb, leb-true, leb-false, le-leb}
+use Rattle.arithmetic.specs.All.{all, all-each, all-true}
 use Rattle.arithmetic.specs.First.{first, firstFrom, first-is}
 use Rattle.arithmetic.specs.Order.{or-1, or-2}
 use Rattle.arithmetic.specs.Outcome.{complete, refuse, _then_, then-complete, refuse-complete}
@@ -22,6 +23,7 @@ use Rattle.arithmetic.specs.declared.outcome.Outcome.the-variants.{Complete, Si
 use Rattle.matrix.specs.Matrix.{Square, at, cell-lt}
 use Rattle.matrix.specs.Checks.{check-size, check-matrix, check-buffer, check-index, check-indices, check-finite, check-symmetric, outOfRange, notFinite, firstNotFinite, sameBits, unsymmetric, firstUnsymmetric, AllFinite}
 use Rattle.matrix.specs.Plain.{AllBelow}
+use Rattle.matrix.proofs.Bijection.{same-tests}
 
 -- ---- a loop that searches up to n, at i: what it still has to find
 pub search-start : (bad : ℕ → Bool) (n : ℕ) → firstFrom bad 0 n ≡ firstFrom bad 0 (n - 0)
@@ -40,22 +42,14 @@ module _ (bad : ℕ → Bool) (i n : ℕ) where
   unfolding firstFrom
   search-end h k = let s : n - i ≡ 0 = omega arith in let e : i ≡ n = omega arith in rw (s, e)
 
--- ---- a loop that asks whether the first bad position is at or after i
-module _ (bad : ℕ → Bool) (i n : ℕ) where
-  pub none-turn : i < n → bad i ≡ false → leb i (first bad n) ≡ leb (i + 1) (first bad n)
-  none-turn h e = elim (decLt i (first bad n)) [
-    | yes p ↦ le-leb i (first bad n) (omega arith) ∙ sym (le-leb (i + 1) (first bad n) (omega arith))
-    | no q ↦ lt-leb i (first bad n) (omega (arith, other q)) ∙ sym (lt-leb (i + 1) (first bad n) (omega arith))
-  ]
-    where
-      other : (i < first bad n → ⊥) → first bad n ≡ i → ⊥
-      other q d = true≢false (sym (first-is bad n .here (omega arith)) ∙ ap bad d ∙ e)
-
-  pub some-turn : i < n → bad i ≡ true → false ≡ leb (i + 1) (first bad n)
-  some-turn h e = elim (decLt i (first bad n)) [
-    | yes p ↦ absurd (true≢false (sym e ∙ first-is bad n .good i (omega arith) p))
-    | no q ↦ sym (lt-leb (i + 1) (first bad n) (omega arith))
-  ]
+-- ---- every position is good where the first bad one is at the end
+pub none-bad : (bad : ℕ → Bool) (n : ℕ) (good : ℕ → Bool) → ((i : ℕ) → bad i ≡ not (good i)) → all 0 n good ≡ leb n (first bad n)
+none-bad bad n good e = same-tests (all 0 n good) (leb n (first bad n))
+    (λ h. le-leb n (first bad n) (elim (decLt (first bad n) n) [
+      | yes p ↦ absurd (true≢false (sym (first-is bad n .here p) ∙ e (first bad n) ∙ ap not (all-each 0 n good (omega arith) h (first bad n) (omega arith) p)))
+      | no p ↦ omega arith
+    ]))
+    (λ h. all-true 0 n good (omega arith) (λ i p q. not-false (good i) (sym (e i) ∙ first-is bad n .good i p (omega (arith, leb-true n (first bad n) h)))))
 
 -- ---- one check of a chain, in code: it is run, its answer asked whether it is complete, and returned where it is not
 pub record Accepted (o : Outcome) : Type 0 where

@@ -1,16 +1,16 @@
 -- An accepted circle's radius is finite and not negative.
-use mathlib.Core.Path.{_≡_, refl, sym, ap, _∙_}
+use mathlib.Core.Path.{_≡_, refl}
 use mathlib.Core.List.{List}
-use mathlib.Core.Bool.{Bool, true, false, cond, not, _&&_, _||_, false≢true}
-use Prim.Native.Nat.{ℕ, suc, _≤_, _<_}
+use mathlib.Core.Bool.{Bool, true, false, cond, not, _&&_, _||_}
+use Prim.Native.Nat.{ℕ, _≤_, _<_}
 use native.Mathlib.Omega.{arith}
 use lib.Dec.{ltb, eqb}
 use borrow.Author.Tests.{ltb-false, not-false}
 use lib.Ieee.{Float, lt, isNan}
 use lib.Ieee.Scale.{finite}
-use Rattle.arithmetic.specs.Double.{plus-zero, _⊕_, abs, min}
-use Rattle.arithmetic.specs.Loop.{range, range-ind}
-use Rattle.arithmetic.specs.First.{first, first-is}
+use Rattle.arithmetic.specs.Double.{plus-zero, _⊕_, abs}
+use Rattle.arithmetic.specs.Loop.{range-ind}
+use Rattle.arithmetic.specs.First.{first-is}
 use Rattle.arithmetic.specs.Order.{and-1, and-2}
 use Rattle.arithmetic.specs.Outcome.{complete, refuse-complete}
 use Rattle.arithmetic.specs.Same.{signOf}

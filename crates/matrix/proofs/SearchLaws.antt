@@ -2,10 +2,9 @@
 -- search and tie go along with a bijection of the positions.
 use mathlib.Core.Path.{_≡_, refl, sym, ap, _∙_, subst}
 use mathlib.Core.List.{List}
-use mathlib.Core.Bool.{Bool, true, false, cond, true≢false, false≢true}
-use Prim.Native.Nat.{ℕ, zero, suc, _+_, _≤_, _<_}
+use mathlib.Core.Bool.{Bool, true, false, false≢true}
+use Prim.Native.Nat.{ℕ, suc, _≤_, _<_}
 use native.Mathlib.Decide.{ℕ-discrete}
-use native.Mathlib.Numerals.{add-one}
 use native.Mathlib.Omega.{arith}
 use lib.ListN.{length, getD}
 use lib.Dec.{ltb}
@@ -13,7 +12,7 @@ use borrow.Author.Tests.{ltb-true, ltb-false}
 use lib.Ieee.{Float, nan, lt, eq, isNan}
 use Rattle.arithmetic.specs.Loop.{range, range-ind}
 use Rattle.arithmetic.specs.Order.{lt-irreflexive, lt-transitive, lt-cotransitive, lt-total, eq-not-lt, eq-symmetric}
-use Rattle.matrix.specs.Search.{key, better, look, bestOf, tally, countEqual, largest}
+use Rattle.matrix.specs.Search.{key, look, bestOf, tally, countEqual, largest}
 use Rattle.matrix.specs.declared.utils.Best.{Best}
 use Rattle.matrix.proofs.Bijection.{Is, is, holds, fails, same-tests, not-holds, Bijection, inverse, Along, along-inverse}
 

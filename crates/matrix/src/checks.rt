@@ -1,8 +1,10 @@
 // The checks that calls share, in the order of their refusals' numbers. Each answers Complete or its refusal.
 ghost use mathlib.Core.Path.{_≡_};
-ghost use Prim.Native.Nat.{ℕ, _+_, _*_, _/_, _%_, _<_, _≤_};
-ghost use lib.ListN.{length};
-ghost use lib.Dec.{leb};
+ghost use Prim.Native.Nat.{_+_, _*_, _/_, _%_, _<_, _≤_};
+ghost use lib.ListN.{length, getD};
+ghost use lib.Ieee.{nan};
+ghost use lib.Ieee.Scale.{finite};
+ghost use Rattle.arithmetic.specs.All.{all};
 ghost use Rattle.matrix.specs.Matrix.{Square};
 ghost use Rattle.matrix.specs.Checks.{check-size, check-some, check-matrix, check-buffer, check-index, check-indices, check-finite, check-symmetric, firstNotFinite, firstMismatch, AllFinite};
 use crate::entries::get;
@@ -70,14 +72,15 @@ pub fn check_indices(n: usize, idxs: &[usize]) -> Outcome
     Outcome::Complete
 }
 
-// Without an early end, so that the machine can test several entries at once.
-fn all_finite(m: &[f64]) -> bool
-    ensures { λ r. ⌜ r ≡ leb (length (now (m .entry))) (firstNotFinite (now (m .entry))) ⌝ }
+// Whether the entries from a on are finite. Without an early end, so that the machine can test several at once.
+pub fn list_finite(l: &[f64], a: usize) -> bool
+    requires { ⌜ a ≤ length (now l) ⌝ }
+    ensures { λ r. ⌜ r ≡ all a (length (now (l .entry))) (λ i. finite (getD (now (l .entry)) i nan)) ⌝ }
 {
-    let len = m.len();
+    let n = l.len();
     let mut ok = true;
-    for k in 0..len {
-        if !finite(m[k]) {
+    for i in a..n {
+        if !finite(l[i]) {
             ok = false;
         }
     }
@@ -101,7 +104,7 @@ pub fn check_finite(n: usize, m: &[f64]) -> Outcome
     requires { ⌜ 0 < n ⌝ }
     ensures { λ r. ⌜ r ≡ check-finite n (now (m .entry)) ⌝ }
 {
-    if all_finite(m) {
+    if list_finite(m, 0) {
         return Outcome::Complete;
     }
     let k = first_not_finite(m);

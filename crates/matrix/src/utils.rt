@@ -1,15 +1,15 @@
 // src/utils.rs: swaps, searches, eigenvalues, permutation and diagonal matrices.
 ghost use mathlib.Core.Path.{_≡_};
-ghost use mathlib.Core.Bool.{Bool, cond, _&&_};
+ghost use mathlib.Core.Bool.{Bool, cond};
 ghost use Prim.Native.Nat.{_+_, _*_, _<_, _≤_};
 ghost use lib.ListN.{length};
 ghost use lib.Ieee.{nan, eq};
-ghost use Rattle.matrix.specs.Matrix.{Square, zeros};
+ghost use Rattle.matrix.specs.Matrix.{Square};
 ghost use Rattle.matrix.specs.Swap.{swap, swap-rows, swap-columns};
 ghost use Rattle.matrix.specs.Search.{key, better, bestOf, countEqual, largest};
-ghost use Rattle.matrix.specs.Eigenvalues.{ordered, eigenvaluesOf, eigenvalues-2x2};
+ghost use Rattle.matrix.specs.Eigenvalues.{ordered, eigenvalues-2x2};
 ghost use Rattle.matrix.specs.Plain.{AllBelow, index-to-permutation-mat, diag-mat-from-arr};
-ghost use Rattle.matrix.specs.Calls.{matrixCall, swap-checks, checked-swap-rows, checked-swap-columns, search-checks, checked-search, eigen-checks, checked-eigenvalues-2x2, permutation-checks, checked-index-to-permutation-mat, diagonal-checks, checked-diag-mat-from-arr};
+ghost use Rattle.matrix.specs.Calls.{swap-checks, checked-swap-rows, checked-swap-columns, search-checks, checked-search, eigen-checks, checked-eigenvalues-2x2, permutation-checks, checked-index-to-permutation-mat, diagonal-checks, checked-diag-mat-from-arr};
 use crate::checks;
 use crate::entries::cell;
 use crate::entries::clear;

@@ -7,6 +7,7 @@ use native.Mathlib.Decide.{ℕ-discrete, decLt}
 use native.Mathlib.Omega.{arith}
 use lib.Ieee.{Float}
 use lib.Ieee.Scale.{finite}
+use Rattle.arithmetic.specs.All.{all-each}
 use Rattle.arithmetic.specs.Loop.{range}
 use Rattle.arithmetic.specs.Order.{and-1}
 use Rattle.matrix.specs.Matrix.{at}
@@ -17,7 +18,6 @@ use Rattle.methods.proofs.FiniteEntries.{FiniteEntries, pivot-finite}
 use Rattle.methods.proofs.GmwLaws.{started-is, step-at-is}
 use Rattle.methods.proofs.GmwRuns.{steps-keep, l₂Of, c₃Of, step-never}
 use Rattle.methods.proofs.GmwSteps.{row-stored}
-use Rattle.methods.proofs.Tests.{all-each}
 
 -- ---- row j of l is divided, and tested
 stored-row : (n j : ℕ) (l c : List Float) (dj ej : Float) → storedFinite n j l c dj ej ≡ true → (k : ℕ) → k < j → finite (at n l j k) ≡ true

@@ -9,12 +9,12 @@ use lib.ListN.{length, getD}
 use borrow.Author.Tests.{eq-eqb, ne-eqb}
 use lib.Ieee.{Float}
 use lib.Ieee.Scale.{finite}
+use Rattle.arithmetic.specs.All.{all, all-each, all-true}
 use Rattle.matrix.specs.Matrix.{at}
 use Rattle.matrix.proofs.EntryLaws.{Entries, same-entries}
 use Rattle.matrix.proofs.SwapLaws.{transpose, transpose-self, transpose-lt, transpose-twice, length-swap, getD-swap, swap-both-entries, swap-both-at}
 use Rattle.matrix.proofs.Bijection.{Bijection, Fixes, turned, turned-lt, same-tests}
-use Rattle.methods.specs.Statements.{pivotMatrix, pivotList, all, blockFinite}
-use Rattle.methods.proofs.Tests.{all-each, all-true}
+use Rattle.methods.specs.Statements.{pivotMatrix, pivotList, blockFinite}
 
 -- B's entry (x, y) is A's entry (σ x, σ y)
 pub record Moved (n : ℕ) (σ : ℕ → ℕ) (A B : List Float) : Type 0 where

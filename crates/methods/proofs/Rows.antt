@@ -9,19 +9,19 @@ use native.Mathlib.Omega.{arith}
 use lib.ListN.{getD, set}
 use lib.Ieee.{Float, nan}
 use lib.Ieee.Scale.{finite}
+use Rattle.arithmetic.specs.All.{all, andTest, all-each, all-true}
 use Rattle.arithmetic.specs.Double.{_⊖_, _⊗_, _⊘_}
 use Rattle.arithmetic.specs.Loop.{range-none, range-more}
 use Rattle.arithmetic.specs.Order.{and-1, and-2}
 use Rattle.arithmetic.specs.Sqrt.{sqrt}
 use Rattle.matrix.specs.Matrix.{at, put}
-use Rattle.matrix.proofs.EntryLaws.{Entries, put-entries, at-put-same, at-put-other}
+use Rattle.matrix.proofs.EntryLaws.{Entries, at-put-same, at-put-other}
 use Rattle.matrix.proofs.Bijection.{same-tests}
-use Rattle.methods.specs.Statements.{all, blockFinite, eliminate}
+use Rattle.methods.specs.Statements.{blockFinite, eliminate}
 use Rattle.methods.specs.Elimination.{mirrored, CellsWritten, RowWritten, ColumnWritten, RowsEliminated, subtracted}
-use Rattle.methods.proofs.Tests.{all-each, all-true, all-same}
+use Rattle.methods.proofs.Tests.{all-same}
 use Rattle.methods.proofs.Moved.{block-each, block-true}
 use Rattle.methods.proofs.Mirrored.{mirrored-entries, mirrored-lower, mirrored-upper, mirrored-symmetric, is-mirrored}
-use Rattle.methods.proofs.StatementLaws.{andTest}
 use Rattle.methods.proofs.Stored.{stored-none, stored-more}
 use Rattle.methods.proofs.Eliminated.{eliminated, eliminate-at, eliminate-entries, eliminate-symmetric, low-row, low-column, corner, in-column, inside, Side, side, before, is-j, after}
 

@@ -13,6 +13,7 @@ use lib.Dec.{eqb}
 use lib.Ieee.{Float, nan, binary64}
 use lib.Ieee.Fits.{mul-fits}
 use lib.Ieee.Scale.{finite}
+use Rattle.arithmetic.specs.All.{all, all-each, all-true}
 use Rattle.arithmetic.specs.Double.{plus-zero, _⊕_, _⊗_}
 use Rattle.arithmetic.specs.Loop.{range, range-ind}
 use Rattle.arithmetic.specs.Sqrt.{sqrt}
@@ -22,9 +23,7 @@ use Rattle.matrix.specs.Table.{table, length-table, getD-table}
 use Rattle.matrix.proofs.Bijection.{same-tests}
 use Rattle.matrix.proofs.EntryLaws.{Entries, same-entries}
 use Rattle.methods.specs.Gmw81.{doutOf, product, scaledFinite}
-use Rattle.methods.specs.Statements.{all}
 use Rattle.methods.specs.Elimination.{Stored}
-use Rattle.methods.proofs.Tests.{all-each, all-true}
 use Rattle.methods.proofs.Stored.{stored}
 use Rattle.methods.proofs.Zeros.{times-zero}
 use Rattle.methods.proofs.OneTerm.{one-term}

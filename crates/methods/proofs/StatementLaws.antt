@@ -1,7 +1,6 @@
--- What the statements' code leaves in a list or a variable, each value named: lists written place by place, tests of each position, pivots.
+-- What the statements' code leaves in a list, each value named: lists written place by place, pivots.
 use mathlib.Core.Path.{_≡_, sym, ap, _∙_}
 use mathlib.Core.List.{List}
-use mathlib.Core.Bool.{Bool, true, _&&_}
 use Prim.Native.Nat.{ℕ, _+_, _≤_, _<_}
 use native.Mathlib.Decide.{ℕ-discrete}
 use native.Mathlib.Omega.{arith}
@@ -9,10 +8,9 @@ use borrow.Author.Tests.{eq-eqb, ne-eqb}
 use lib.ListN.{length, getD, set}
 use lib.Seq.{getD-set-same, getD-set-other, ext-getD}
 use lib.Ieee.{Float}
-use Rattle.arithmetic.specs.Loop.{range, loop-end}
 use Rattle.matrix.specs.Table.{table, length-table, getD-table}
 use Rattle.matrix.specs.Swap.{swap, swap-rows, swap-columns}
-use Rattle.methods.specs.Statements.{pivotMatrix, pivotList, all}
+use Rattle.methods.specs.Statements.{pivotMatrix, pivotList}
 
 -- ---- the places a to i - 1 are written
 module _ {A : Type 0} (d : A) (f : ℕ → A) where
@@ -27,14 +25,6 @@ module _ {A : Type 0} (d : A) (f : ℕ → A) where
 
   pub written-is : (n i : ℕ) (l : List A) → length l ≡ n → n ≤ i → Written 0 i l → l ≡ table n f
   written-is n i l e h w = ext-getD d l (table n f) (e ∙ sym (length-table n f)) (λ k p. w k (omega arith) (omega arith) ∙ sym (getD-table n f k d (omega arith)))
-
--- ---- a loop that tests each position
-abbrev pub andTest : (ℕ → Bool) → ℕ → Bool → Bool
-andTest test i ok = ok && test i
-
-pub all-end : (a i n : ℕ) (test : ℕ → Bool) (ok : Bool) → i ≤ n → n ≤ i → ok ≡ range a i (andTest test) true → ok ≡ all a n test
-unfolding all
-all-end a i n test ok h k e = loop-end a i n (andTest test) true ok h k e
 
 -- ---- pivots
 swapped : (n j k : ℕ) (m : List Float) → (k ≡ 0 → ⊥) → pivotMatrix n j k m ≡ swap-columns n (swap-rows n m j (j + k)) j (j + k)

@@ -1,7 +1,7 @@
 -- Tests over a range of positions, and folds that keep the smallest or the largest: along a bijection they come out alike.
 use mathlib.Core.Path.{_≡_, refl, sym, ap, ap₂, _∙_, subst}
 use mathlib.Core.Logic.{_⊎_, inl, inr, ⊎-elim}
-use mathlib.Core.Bool.{Bool, true, false, _&&_, _||_, cond, Bool·beq, false≢true}
+use mathlib.Core.Bool.{Bool, true, false, _||_, cond, Bool·beq, false≢true}
 use Prim.Native.Nat.{ℕ, zero, suc, _+_, _*_, _≤_, _<_}
 use native.Mathlib.Nat.{zero-lt-suc, mul-pos, zero-mul}
 use native.Mathlib.Decide.{ℕ-discrete}
@@ -14,11 +14,11 @@ use lib.Ieee.{Float, nan, inf, fin, binary64, emax, low, up, down, unlike, below
 use lib.Ieee.Exact.{HasValue, round-exact}
 use lib.Ieee.Fits.{up-pos, down-pos}
 use lib.Ieee.Scale.{finite}
+use Rattle.arithmetic.specs.All.{all, all-each, all-true}
 use Rattle.arithmetic.specs.Loop.{range, range-ind}
 use Rattle.arithmetic.specs.Order.{and-1, and-2, lt-irreflexive, lt-transitive, lt-cotransitive, lt-total, eq-not-lt, eq-symmetric, lt-left-number, none-above-infinity, finite-number}
 use Rattle.arithmetic.specs.Same.{same-double, product-pos}
 use Rattle.matrix.proofs.Bijection.{Is, is, holds, fails, same-tests, not-holds, Bijection, inverse, Along, along-inverse}
-use Rattle.methods.specs.Statements.{all}
 
 -- a double that is a number
 pub record Double (x : Float) : Type 0 where
@@ -26,15 +26,6 @@ pub record Double (x : Float) : Type 0 where
   pub double : T (fits binary64 x)
 
 -- ---- a test of each position
-pub all-each : (a b : ℕ) (test : ℕ → Bool) → a ≤ b → all a b test ≡ true → (i : ℕ) → a ≤ i → i < b → test i ≡ true
-unfolding all
-all-each a b test h = range-ind (λ t c. c ≡ true → (i : ℕ) → a ≤ i → i < t → test i ≡ true) a b (λ i c. c && test i) true h (λ e i p q. absurd (omega arith))
-    (λ t p q c K e i u v. elim (ℕ-discrete i t) [ yes d ↦ rw d (and-2 c (test t) e) | no d ↦ K (and-1 c (test t) e) i u (omega arith) ])
-
-pub all-true : (a b : ℕ) (test : ℕ → Bool) → a ≤ b → ((i : ℕ) → a ≤ i → i < b → test i ≡ true) → all a b test ≡ true
-unfolding all
-all-true a b test h k = range-ind (λ t c. c ≡ true) a b (λ i c. c && test i) true h refl (λ t p q c e. rw (e, k t p q))
-
 pub all-same : (a b : ℕ) (f g : ℕ → Bool) → a ≤ b → ((i : ℕ) → a ≤ i → i < b → f i ≡ g i) → all a b f ≡ all a b g
 all-same a b f g h e = same-tests (all a b f) (all a b g)
     (λ t. all-true a b g h (λ i p q. sym (e i p q) ∙ all-each a b f h t i p q))

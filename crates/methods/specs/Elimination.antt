@@ -7,12 +7,12 @@ use lib.ListN.{length, getD}
 use lib.Dec.{leb}
 use lib.Ieee.{Float, nan}
 use lib.Ieee.Scale.{finite}
+use Rattle.arithmetic.specs.All.{all}
 use Rattle.arithmetic.specs.Double.{_⊖_, _⊗_}
 use Rattle.arithmetic.specs.Loop.{range}
 use Rattle.matrix.specs.Matrix.{at}
 use Rattle.matrix.specs.Swap.{swap}
 use Rattle.matrix.specs.Table.{table}
-use Rattle.methods.specs.Statements.{all}
 
 pub record Symmetric (n : ℕ) (m : List Float) : Type 0 where
   pub same : (x y : ℕ) → x < n → y < n → at n m x y ≡ at n m y x

@@ -8,15 +8,15 @@ use lib.ListN.{getD, set}
 use lib.Dec.{eqb, ltb}
 use lib.Ieee.{Float, nan, binary64, ofInt}
 use lib.Ieee.Scale.{finite}
+use Rattle.arithmetic.specs.All.{all}
 use Rattle.arithmetic.specs.Double.{plus-zero, one, epsilon, _⊕_, _⊖_, _⊗_, _⊘_, square, abs, max}
 use Rattle.arithmetic.specs.Loop.{range}
 use Rattle.arithmetic.specs.Sqrt.{sqrt}
 use Rattle.matrix.specs.Matrix.{at, put, zeros}
 use Rattle.matrix.specs.Table.{table}
 use Rattle.matrix.specs.Search.{largest}
-use Rattle.matrix.specs.declared.utils.Found.{Found}
 use Rattle.methods.specs.Marks.{mark, marked}
-use Rattle.methods.specs.Statements.{largerMagnitude, diagonalMax, diagonalFrom, pivotMatrix, pivotList, lowerTriangle, reorder, all}
+use Rattle.methods.specs.Statements.{largerMagnitude, diagonalMax, diagonalFrom, pivotMatrix, pivotList, lowerTriangle, reorder}
 use Rattle.methods.specs.Result.{Result, identity, handBack}
 use Rattle.methods.specs.declared.gmw81.Marks.{Marks}
 use Rattle.methods.specs.declared.gmw81.StepValues.{StepValues}

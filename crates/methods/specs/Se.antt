@@ -1,12 +1,13 @@
 -- SE90 and SE99, statement by statement beside src/se90.rs and src/se99.rs. They share all but the tests of phase one, the least
 -- amount and the last amount.
-use mathlib.Core.List.{List, [], _∷_}
+use mathlib.Core.List.{List}
 use mathlib.Core.Bool.{Bool, true, false, cond, not, _&&_, _||_}
 use Prim.Native.Nat.{ℕ, _+_, _-_, _*_}
 use lib.ListN.{getD, set, drop}
-use lib.Dec.{eqb, leb, ltb}
+use lib.Dec.{eqb}
 use lib.Ieee.{Float, nan, inf, lt, neg}
 use lib.Ieee.Scale.{finite}
+use Rattle.arithmetic.specs.All.{all}
 use Rattle.arithmetic.specs.Double.{plus-zero, one, epsilon, _⊕_, _⊖_, _⊗_, _⊘_, square, abs, max}
 use Rattle.arithmetic.specs.Loop.{range}
 use Rattle.arithmetic.specs.Sqrt.{sqrt}
@@ -16,7 +17,7 @@ use Rattle.matrix.specs.Search.{largest}
 use Rattle.matrix.specs.Eigenvalues.{eigenvaluesOf}
 use Rattle.matrix.specs.declared.utils.Eigen.{Eigen}
 use Rattle.methods.specs.Marks.{mark, marked}
-use Rattle.methods.specs.Statements.{diagonalMax, diagonalFrom, pivotMatrix, pivotList, eliminate, lowerTriangle, reorder, all, blockFinite}
+use Rattle.methods.specs.Statements.{diagonalMax, diagonalFrom, pivotMatrix, pivotList, eliminate, lowerTriangle, reorder, blockFinite}
 use Rattle.methods.specs.Result.{Result, identity, handBack}
 use Rattle.methods.specs.declared.schnabel_eskow.Progress.{Progress}
 use Rattle.methods.specs.declared.schnabel_eskow.Tolerances.{Tolerances}

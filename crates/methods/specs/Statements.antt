@@ -1,12 +1,13 @@
 -- Statements that the methods share, each beside the Rust it stands for.
 use mathlib.Core.List.{List}
-use mathlib.Core.Bool.{Bool, true, cond, _&&_}
+use mathlib.Core.Bool.{Bool, cond}
 use Prim.Native.Nat.{ℕ, _+_, _-_, _*_}
-use lib.ListN.{length, getD, set}
+use lib.ListN.{getD, set}
 use lib.Dec.{eqb}
 use lib.Ieee.{Float, nan, lt}
 use lib.Ieee.Scale.{finite}
-use Rattle.arithmetic.specs.Double.{plus-zero, _⊕_, _⊖_, _⊗_, _⊘_, abs}
+use Rattle.arithmetic.specs.All.{all}
+use Rattle.arithmetic.specs.Double.{plus-zero, _⊖_, _⊗_, _⊘_, abs}
 use Rattle.arithmetic.specs.Loop.{range}
 use Rattle.arithmetic.specs.Sqrt.{sqrt}
 use Rattle.matrix.specs.Matrix.{at, put}
@@ -87,10 +88,6 @@ unfolding range
 reorder n p ec = range 0 n (λ i e. set e (getD p i 0) (getD ec i nan)) ec
 
 -- ---- whether stored values are finite
-unfoldable pub all : ℕ → ℕ → (ℕ → Bool) → Bool
-unfolding range
-all a b test = range a b (λ i ok. ok && test i) true
-
 -- rows and columns j to n - 1
 unfoldable pub blockFinite : ℕ → ℕ → List Float → Bool
 unfolding all

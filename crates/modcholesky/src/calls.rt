@@ -1,8 +1,7 @@
 // What the factorization calls share: their checks, and what they hand back.
 ghost use mathlib.Core.Path.{_≡_};
-ghost use Prim.Native.Nat.{ℕ, _*_};
+ghost use Prim.Native.Nat.{_*_};
 ghost use lib.ListN.{length};
-ghost use Rattle.matrix.specs.Matrix.{Square, zeros};
 ghost use Rattle.methods.specs.Result.{handBack, outcomeOf};
 ghost use Rattle.methods.specs.Calls.{call, answered, length-checks, factor-checks, numbered-call};
 ghost use Rattle.methods.specs.declared.decomposition.Mark.the-variants.{Never};

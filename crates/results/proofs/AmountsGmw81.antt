@@ -7,13 +7,14 @@ use native.Mathlib.Omega.{arith}
 use borrow.Author.Tests.{le-ltb}
 use lib.Ieee.{Float, nan, inf, fin, up, down, lt, isNan}
 use lib.Ieee.Scale.{finite}
+use Rattle.arithmetic.specs.All.{all}
 use Rattle.arithmetic.specs.Double.{plus-zero, _⊘_, square, abs, max}
 use Rattle.arithmetic.specs.Order.{and-2}
 use Rattle.matrix.specs.Matrix.{at}
 use Rattle.matrix.proofs.EntryLaws.{Entries}
 use Rattle.matrix.proofs.Bijection.{Is, is, holds, fails}
 use Rattle.methods.specs.Marks.{marked}
-use Rattle.methods.specs.Statements.{pivotMatrix, all}
+use Rattle.methods.specs.Statements.{pivotMatrix}
 use Rattle.methods.specs.Gmw81.{Run, start, thetaOf, dOf, c₂Of, storedFinite, stepAt, finish, run, mod-cholesky-gmw81}
 use Rattle.methods.specs.Result.{filled}
 use Rattle.methods.specs.declared.decomposition.Mark.the-variants.{Never}

@@ -7,15 +7,14 @@ use native.Mathlib.Omega.{arith}
 use lib.ListN.{getD}
 use lib.Ieee.{Float, nan}
 use lib.Ieee.Scale.{finite}
+use Rattle.arithmetic.specs.All.{all, all-each}
 use Rattle.arithmetic.specs.Double.{plus-zero, _⊗_}
 use Rattle.arithmetic.specs.Order.{and-1, and-2}
 use Rattle.arithmetic.specs.Sqrt.{sqrt}
 use Rattle.matrix.specs.Checks.{AllFinite}
 use Rattle.matrix.specs.Matrix.{cell-lt}
 use Rattle.methods.specs.Gmw81.{doutOf, product, scaledFinite}
-use Rattle.methods.specs.Statements.{all}
 use Rattle.methods.proofs.Scaled.{product-entries, dout-root, scaled-at}
-use Rattle.methods.proofs.Tests.{all-each}
 use Rattle.methods.proofs.Zeros.{zero-times, add-zero}
 use Rattle.results.specs.Results.{LowerFactor}
 

@@ -6,12 +6,13 @@ use Prim.Native.Nat.{ℕ, _+_, _-_}
 use lib.ListN.{getD}
 use lib.Ieee.{Float, nan}
 use lib.Ieee.Scale.{finite}
+use Rattle.arithmetic.specs.All.{all}
 use Rattle.arithmetic.specs.Double.{_⊕_, _⊖_, _⊘_, square}
 use Rattle.arithmetic.specs.Order.{and-1, and-2}
 use Rattle.arithmetic.specs.Sqrt.{sqrt}
 use Rattle.matrix.specs.Matrix.{at, put}
 use Rattle.matrix.specs.declared.utils.Eigen.{Eigen}
-use Rattle.methods.specs.Statements.{pivotMatrix, pivotList, eliminate, all, blockFinite}
+use Rattle.methods.specs.Statements.{pivotMatrix, pivotList, eliminate, blockFinite}
 use Rattle.methods.specs.Se.{Run, factorize, begin, bounds, columnSum, amount, added, updateBounds, phaseTwoStepAt, addPair, addOne}
 use Rattle.methods.specs.declared.decomposition.Mark.the-variants.{Never}
 use Rattle.methods.specs.declared.schnabel_eskow.Tolerances.{Tolerances}

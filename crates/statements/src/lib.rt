@@ -9,7 +9,7 @@ ghost use Rattle.arithmetic.specs.Double.{_⊘_};
 ghost use Rattle.matrix.specs.Matrix.{Square, at};
 ghost use Rattle.matrix.specs.Search.{largest};
 ghost use Rattle.matrix.specs.Plain.{AllBelow};
-ghost use Rattle.methods.specs.Statements.{largerMagnitude, diagonalMax, diagonalFrom, pivotMatrix, pivotList, eliminate, clearAfter, lowerTriangle, reorder, all, blockFinite};
+ghost use Rattle.methods.specs.Statements.{largerMagnitude, diagonalMax, diagonalFrom, pivotMatrix, pivotList, eliminate, clearAfter, lowerTriangle, reorder, blockFinite};
 ghost use Rattle.methods.specs.Elimination.{mirrored, swapLeft, swapBetween, swapBelow, RowWritten, ColumnWritten, RowsEliminated, subtracted};
 ghost use Rattle.methods.specs.Result.{identity};
 use arithmetic::double::abs;
@@ -288,17 +288,4 @@ pub fn both(a: bool, b: bool) -> bool
     ensures { λ r. ⌜ r ≡ (a && b) ⌝ }
 {
     if a { b } else { false }
-}
-
-// Positions a to the end.
-pub fn list_finite(g: &[f64], a: usize) -> bool
-    requires { ⌜ a ≤ length (now g) ⌝ }
-    ensures { λ r. ⌜ r ≡ all a (length (now (g .entry))) (λ i. finite (getD (now (g .entry)) i nan)) ⌝ }
-{
-    let n = g.len();
-    let mut ok = true;
-    for i in a..n {
-        ok = both(ok, finite(g[i]));
-    }
-    ok
 }

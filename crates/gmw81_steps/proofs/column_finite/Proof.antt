@@ -2,9 +2,9 @@ use mathlib.Core.Path.{_≡_}
 use Prim.Native.Nat.{_-_, _≤_}
 use borrow.Author.Needs.{needs}
 use lib.Ieee.Scale.{finite}
+use Rattle.arithmetic.specs.All.{andTest, all-end}
 use Rattle.arithmetic.specs.Loop.{range, loop-start, loop-turn}
 use Rattle.matrix.specs.Matrix.{at}
-use Rattle.methods.proofs.StatementLaws.{andTest, all-end}
 use Rattle.gmw81_steps.proofs.column_finite.Statement.{statement}
 use Rattle.gmw81_steps.proofs.column_finite.Tie as tie
 

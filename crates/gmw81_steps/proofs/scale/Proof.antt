@@ -7,13 +7,14 @@ use borrow.Author.Needs.{needs}
 use lib.ListN.{length, getD}
 use lib.Ieee.{Float, nan}
 use lib.Ieee.Scale.{finite}
+use Rattle.arithmetic.specs.All.{all}
 use Rattle.arithmetic.specs.Double.{one}
 use Rattle.arithmetic.specs.Loop.{range}
 use Rattle.arithmetic.specs.Sqrt.{sqrt}
 use Rattle.matrix.specs.Matrix.{put}
 use Rattle.matrix.specs.Table.{table}
 use Rattle.methods.specs.Gmw81.{doutOf, unitLower, product, scaledFinite}
-use Rattle.methods.specs.Statements.{lowerTriangle, all}
+use Rattle.methods.specs.Statements.{lowerTriangle}
 use Rattle.methods.proofs.FiniteEntries.{FiniteEntries, unit-lower-finite}
 use Rattle.methods.proofs.Scaled.{scaleRow, scaled-is, scaled-finite-is}
 use Rattle.gmw81_steps.proofs.scale.Statement.{statement}

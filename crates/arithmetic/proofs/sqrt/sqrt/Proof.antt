@@ -1,8 +1,6 @@
 use borrow.Author.Needs.{needs}
 use mathlib.Core.Path.{_∙_}
-use lib.Dec.{T}
 use lib.Ieee.{ofBits, div}
-use lib.Ieee.Positive.{positive}
 use Rattle.arithmetic.proofs.Operand.{zero-value, negative-value, rest-value}
 use Rattle.arithmetic.proofs.Stages.{zero-root, negative-root, positive-rest, other-root, joined}
 use Rattle.arithmetic.proofs.sqrt.sqrt.Statement.{statement}

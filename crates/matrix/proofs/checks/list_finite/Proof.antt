@@ -1,13 +1,26 @@
-use mathlib.Core.Path.{_≡_}
-use Prim.Native.Nat.{_-_, _≤_}
+use mathlib.Core.Path.{_≡_, refl, sym, _∙_}
+use mathlib.Core.List.{List}
+use mathlib.Core.Bool.{Bool, true, false, not, _&&_}
+use mathlib.Core.Logic.{inl, inr}
+use Prim.Native.Nat.{ℕ, _-_, _≤_}
 use lib.ListN.{getD}
-use lib.Ieee.{nan}
+use lib.Ieee.{Float, nan}
 use lib.Ieee.Scale.{finite}
+use Rattle.arithmetic.specs.All.{andTest, all-end}
 use Rattle.arithmetic.specs.Loop.{range, loop-start, loop-turn}
 use borrow.Author.Needs.{needs}
-use Rattle.methods.proofs.StatementLaws.{andTest, all-end}
-use Rattle.statements.proofs.list_finite.Statement.{statement}
-use Rattle.statements.proofs.list_finite.Tie as tie
+use borrow.Author.Tests.{not-true, not-false}
+use Rattle.matrix.proofs.checks.list_finite.Statement.{statement}
+use Rattle.matrix.proofs.checks.list_finite.Tie as tie
+
+module _ (l : List Float) (i : ℕ) where
+  fails : (ok b : Bool) → b ≡ finite (getD l i nan) → not b ≡ true → false ≡ (ok && finite (getD l i nan))
+  fails true b e h = sym (not-true b h) ∙ e
+  fails false b e h = refl
+
+  passes : (ok b : Bool) → b ≡ finite (getD l i nan) → not b ≡ false → ok ≡ (ok && finite (getD l i nan))
+  passes true b e h = sym (not-false b h) ∙ e
+  passes false b e h = refl
 
 abbrev Inv-loop : tie.InvT-loop
 Inv-loop g a n ok₀ i₀ ok i = (a ≤ i) × (i ≤ n) × (ok ≡ range a i (andTest (λ k. finite (getD g k nan))) ok₀)
@@ -27,9 +40,6 @@ shared-slice-read-finite c = search needs
 finite-requires : tie.Need-finite-requires Inv-loop μ-loop
 finite-requires c κs = search needs
 
-both-requires : tie.Need-both-requires Inv-loop μ-loop
-both-requires c κs = search needs
-
 add-i : tie.Need-add-i Inv-loop μ-loop
 add-i c = search needs
 
@@ -38,8 +48,17 @@ loop-less c = search needs
 
 loop-again : tie.Need-loop-again Inv-loop μ-loop
 loop-again c =
-    let l = c .before .before .before .before .loop in
-    (search needs, search needs, loop-turn _ _ _ _ _ _ (l .inv .0) (l .inv .2) (rw (c .both .ensures, c .before .finite .ensures)))
+    let f = c .before in
+    let o = f .before .before .before in
+    let l = o .loop in
+    let m = o .before .before .args .l .now in (
+      search needs,
+      search needs,
+      loop-turn _ _ _ _ _ _ (l .inv .0) (l .inv .2) (elim (c .if1 .came) [
+        | inl t ↦ t .1 ∙ fails m (l .i) (l .ok) _ (f .finite .ensures) (t .0 .taken)
+        | inr t ↦ t .1 ∙ passes m (l .i) (l .ok) _ (f .finite .ensures) (t .0 .left)
+      ]),
+    )
 
 returns : tie.Need-returns Inv-loop μ-loop
 returns c = all-end _ _ _ _ _ (c .before .loop .inv .1) (search needs) (c .before .loop .inv .2)
@@ -54,7 +73,6 @@ list-finite-spec =
     mul-finite
     shared-slice-read-finite
     finite-requires
-    both-requires
     add-i
     loop-less
     loop-again
