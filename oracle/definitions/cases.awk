@@ -5,7 +5,7 @@ function start() {
     print "use mathlib.Core.Path.{_≡_, refl}" > file
     print "use mathlib.Core.List.{List, [], _∷_}" > file
     print "use lib.Ieee.{add, sub, mul, div, lt, eq, neg, isNan}" > file
-    print "use Rattle.methods.specs.Factor.{gmw81, se}" > file
+    print "use Rattle.methods.specs.declared.method.Method.the-variants.{Gmw81, Se}" > file
     print "use Rattle.methods.specs.declared.schnabel_eskow.Variant.the-variants.{Se90, Se99}" > file
     print "use Rattle.cases.specs.Bits.{answer}" > file
 }
@@ -17,9 +17,9 @@ function list(from, to, sign,   i, out) {
 }
 
 BEGIN {
-    method[1] = "gmw81"
-    method[2] = "(se Se90)"
-    method[3] = "(se Se99)"
+    method[1] = "Gmw81"
+    method[2] = "(Se Se90)"
+    method[3] = "(Se Se99)"
     print "pub mod Bits" > (dir "/Lib.antt")
 }
 

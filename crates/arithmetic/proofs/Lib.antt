@@ -1,3 +1,10 @@
+pub mod LoopLaws
+pub mod FirstLaws
+pub mod AllLaws
+pub mod SameDoubles
+pub mod SignLaws
+pub mod OrderLaws
+pub mod OutcomeLaws
 pub mod Operand
 pub mod WholeRoot
 pub mod Rounding
@@ -9,3 +16,12 @@ pub mod Fields
 pub mod Stages
 pub mod Distance
 pub mod Nearest
+pub mod Cases
+pub mod Equals
+pub mod Folds
+pub mod Maximum
+pub mod Products
+pub mod Difference
+pub mod Zeros
+pub mod OneTerm
+pub mod Counting

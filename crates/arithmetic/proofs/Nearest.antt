@@ -15,10 +15,9 @@ use lib.Ieee.Exact.{HasValue}
 use lib.Ieee.Fits.{round-fits, nan-fits, inf-fits, up-pos}
 use lib.Ieee.Bits.{is-true, ofBits-toBits}
 use lib.Ieee.Positive.{positive, positive-of-value}
-use lib.Ieee.Scale.{finite}
 use borrow.Author.Tests.{le-ltb}
 use Rattle.arithmetic.specs.Double.{plus-zero}
-use Rattle.arithmetic.specs.Same.{signOf}
+use Rattle.arithmetic.specs.Sign.{signOf}
 use Rattle.arithmetic.specs.Sqrt.{magnitudeOf, magnitude, nearestTo, rootOf, sqrt, isqrt}
 use Rattle.arithmetic.specs.SqrtStages.{Significand, Remainder, WholeRoot, front}
 use Rattle.arithmetic.specs.Nearest.{Nearer, NotNegative, NearestRoot}

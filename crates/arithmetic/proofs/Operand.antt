@@ -11,7 +11,7 @@ use lib.Ieee.Bits.{is-true}
 use lib.Ieee.Fits.{up-pos, down-pos, and-l}
 use lib.Ieee.Scale.{finite, round-same}
 use Rattle.arithmetic.specs.Double.{plus-zero, abs}
-use Rattle.arithmetic.specs.Same.{zero-exp, beq-self}
+use Rattle.arithmetic.proofs.SameDoubles.{zero-exp, beq-self}
 
 pub holds : {b : Bool} → b ≡ true → T b
 holds e = subst T (sym e) tt

@@ -1,11 +1,10 @@
 pub mod Double
 pub mod Loop
 pub mod First
-pub mod Order
 pub mod All
-pub mod Same
 pub mod Sign
 pub mod Outcome
 pub mod Sqrt
 pub mod SqrtStages
 pub mod Nearest
+pub mod AtLeast

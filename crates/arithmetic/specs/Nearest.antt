@@ -6,7 +6,7 @@ use lib.Dec.{T}
 use lib.Ieee.{Float, binary64, fits, lt}
 use lib.Ieee.Scale.{finite}
 use Rattle.arithmetic.specs.Double.{plus-zero}
-use Rattle.arithmetic.specs.Same.{signOf}
+use Rattle.arithmetic.specs.Sign.{signOf}
 use Rattle.arithmetic.specs.Sqrt.{magnitude}
 
 -- The root of n is nearer to v than to y: it lies on v's side of (v + y) / 2, so 4 * n lies on v's side of the square of v + y.

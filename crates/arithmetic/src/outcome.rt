@@ -1,6 +1,6 @@
 // How a call ends: complete, or with one refusal (document 01, 'Refusals, in checking order').
 ghost use mathlib.Core.Path.{_≡_};
-ghost use Rattle.arithmetic.specs.Outcome.{number, place, complete};
+ghost use Rattle.arithmetic.specs.Outcome.{number, place, complete, _then_};
 
 // The refusals stand in checking order.
 pub enum Outcome {
@@ -50,6 +50,13 @@ impl Outcome {
         ensures { λ r. ⌜ r ≡ complete self ⌝ }
     {
         self.number() == 0
+    }
+
+    // The first refusal of two: a chain of checks is `a.then(b).then(c)`.
+    pub fn then(self, rest: Outcome) -> Outcome
+        ensures { λ r. ⌜ r ≡ (self then rest) ⌝ }
+    {
+        if self.complete() { rest } else { self }
     }
 
     pub fn place(self) -> Place

@@ -5,12 +5,13 @@ use lib.Ieee.{Float}
 use Rattle.arithmetic.specs.Outcome.{number, place}
 use Rattle.arithmetic.specs.declared.outcome.Outcome.{Outcome}
 use Rattle.arithmetic.specs.declared.sqrt.SqrtAnswer.{SqrtAnswer}
-use Rattle.matrix.specs.Calls.{MatrixCall, CirclesCall}
+use Rattle.matrix.specs.Calls.{MatrixCall}
+use Rattle.circles.specs.Circles.{CirclesCall}
 use Rattle.matrix.specs.declared.utils.EigenAnswer.{EigenAnswer}
 use Rattle.matrix.specs.declared.utils.SearchAnswer.{SearchAnswer}
 use Rattle.methods.specs.Calls.{Call}
 use Rattle.methods.specs.declared.decomposition.Decomposition.{Decomposition}
-use Rattle.record.specs.AnswerRecord.{step-byte}
+use Rattle.record.specs.AnswerRecord.{stepByte}
 use Rattle.exports.specs.declared.refusal.Refusal.{Refusal}
 use Rattle.exports.specs.declared.root.Root.{Root}
 use Rattle.exports.specs.declared.helpers.Eigenvalues.{Eigenvalues}
@@ -33,7 +34,7 @@ found a = record { refusal = refusal (a .outcome); index = a .index }
 
 -- the steps are the numbers that stand in a record: 255 for none
 abbrev pub factorization : Decomposition → Factorization
-factorization d = record { refusal = refusal (d .outcome); tied = step-byte (d .tied); phase2 = step-byte (d .phase2) }
+factorization d = record { refusal = refusal (d .outcome); tied = stepByte (d .tied); phase2 = stepByte (d .phase2) }
 
 -- ---- with the buffers lent
 pub record MatrixExport : Type 0 where

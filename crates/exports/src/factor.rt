@@ -1,7 +1,7 @@
 // The factorizations, by document 01's number of the method.
 ghost use mathlib.Core.Path.{_≡_};
-ghost use Rattle.methods.specs.Calls.{numbered-call};
-ghost use Rattle.record.specs.AnswerRecord.{step-byte};
+ghost use Rattle.methods.specs.Calls.{factor-call};
+ghost use Rattle.record.specs.AnswerRecord.{stepByte};
 ghost use Rattle.exports.specs.Exports.{factorization, factorExport};
 use crate::refusal::Refusal;
 use methods::decomposition::Decomposition;
@@ -32,7 +32,7 @@ impl Factorization {
 }
 
 fn step_number(mark: Mark) -> usize
-    ensures { λ r. ⌜ r ≡ step-byte mark ⌝ }
+    ensures { λ r. ⌜ r ≡ stepByte mark ⌝ }
 {
     match mark {
         Mark::Never => 255,
@@ -50,7 +50,7 @@ pub extern "C" fn millracer_factor(
     e: &mut [f64],
     p: &mut [usize],
 ) -> Factorization
-    ensures { λ r. ⌜ record { factorization = r; l = now (l .exit); work = now (work .exit); e = now (e .exit); p = now (p .exit) } ≡ factorExport (numbered-call method n (now (a .entry)) (now (l .entry)) (now (work .entry)) (now (e .entry)) (now (p .entry))) ⌝ }
+    ensures { λ r. ⌜ record { factorization = r; l = now (l .exit); work = now (work .exit); e = now (e .exit); p = now (p .exit) } ≡ factorExport (factor-call method n (now (a .entry)) (now (l .entry)) (now (work .entry)) (now (e .entry)) (now (p .entry))) ⌝ }
 {
     Factorization::of(factor(method, a, n, l, work, e, p))
 }

@@ -2,10 +2,11 @@
 ghost use mathlib.Core.Path.{_≡_};
 ghost use mathlib.Core.Bool.{Bool};
 ghost use mathlib.Core.List.{[], _∷_};
-ghost use Rattle.matrix.specs.Calls.{checked-eigenvalues-2x2, checked-search, checked-swap-rows, checked-swap-columns, checked-index-to-permutation-mat, checked-diag-mat-from-arr, checked-gershgorin-circles};
+ghost use Rattle.matrix.specs.Calls.{checked-eigenvalues-2x2, checked-search, checked-swap-rows, checked-swap-columns, checked-index-to-permutation-mat, checked-diag-mat-from-arr};
+ghost use Rattle.circles.specs.Circles.{checked-gershgorin-circles};
 ghost use Rattle.exports.specs.Exports.{eigenvalues, found, matrixExport, circlesExport};
 use crate::refusal::Refusal;
-use circles::checked_gershgorin_circles;
+use circles::gershgorin::checked_gershgorin_circles;
 use matrix::utils::EigenAnswer;
 use matrix::utils::SearchAnswer;
 use matrix::utils::checked_diag_mat_from_arr;

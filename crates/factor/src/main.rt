@@ -2,11 +2,12 @@
 use libc::STDIN_FILENO;
 use libc::STDOUT_FILENO;
 use record::answer::answer;
+use record::write::LONGEST_ANSWER;
 
 fn main() {
     // One byte more than the longest record, so that a longer input is noticed.
     let mut input = [0; 18444];
-    let mut out = [0; 18885];
+    let mut out = [0; LONGEST_ANSWER];
     let len = io::read_full(STDIN_FILENO, &mut input);
     let n = answer(&input[..len], &mut out);
     io::write_all(STDOUT_FILENO, &out[..n]);

@@ -25,9 +25,8 @@ use matrix::checks::list_finite;
 use matrix::entries::clear;
 use matrix::entries::get;
 use matrix::entries::put;
-use methods::decomposition::Mark;
-use methods::gmw81::Marks;
 use methods::gmw81::StepValues;
+use methods::progress::Progress;
 use statements::both;
 use statements::larger_magnitude;
 
@@ -100,7 +99,7 @@ pub fn begin(
     d: &mut [f64],
     e: &mut [f64],
     p: &mut [usize],
-) -> Marks
+) -> Progress
     requires { ⌜ Square n (now a) ⌝ }
     requires { ⌜ Square n (now l) ⌝ }
     requires { ⌜ Square n (now c) ⌝ }
@@ -113,10 +112,7 @@ pub fn begin(
     clear(d);
     clear(e);
     statements::count_up(p);
-    Marks {
-        tied: Mark::Never,
-        refused: Mark::Never,
-    }
+    Progress::begun()
 }
 
 // ---- a step
@@ -281,25 +277,20 @@ fn step_at(
     j: usize,
     max_idx: usize,
     tie: bool,
-    marks: Marks,
-) -> Marks
+    r: Progress,
+) -> Progress
     requires { ⌜ Square n (now l) ⌝ }
     requires { ⌜ Square n (now c) ⌝ }
     requires { ⌜ (length (now d) ≡ n) × (length (now e) ≡ n) × (length (now p) ≡ n) ⌝ }
     requires { ⌜ j + «max_idx» < n ⌝ }
-    ensures { λ r. ⌜ state (now (l .exit)) (now (c .exit)) (now (d .exit)) (now (e .exit)) (now (p .exit)) r ≡ stepAt n delta beta j «max_idx» tie (state (now (l .entry)) (now (c .entry)) (now (d .entry)) (now (e .entry)) (now (p .entry)) marks) ⌝ }
+    ensures { λ q. ⌜ state (now (l .exit)) (now (c .exit)) (now (d .exit)) (now (e .exit)) (now (p .exit)) q ≡ stepAt n delta beta j «max_idx» tie (state (now (l .entry)) (now (c .entry)) (now (d .entry)) (now (e .entry)) (now (p .entry)) r) ⌝ }
 {
     let v = step_values(l, c, d, n, delta, beta, j, max_idx);
     d[j] = v.d;
     e[j] = v.e;
     statements::pivot_order(p, j, v.pivot);
     let ok = stored_finite(l, c, n, j, v.d, v.e);
-    let tied = marks.tied;
-    let refused = marks.refused;
-    Marks {
-        tied: tied.mark(tie, j),
-        refused: refused.mark(!ok, j),
-    }
+    r.searched(tie, j).stored(ok, j)
 }
 
 fn step(
@@ -313,20 +304,19 @@ fn step(
     delta: f64,
     beta: f64,
     j: usize,
-    marks: Marks,
-) -> Marks
+    r: Progress,
+) -> Progress
     requires { ⌜ Square n (now l) ⌝ }
     requires { ⌜ Square n (now c) ⌝ }
     requires { ⌜ (length (now d) ≡ n) × (length (now e) ≡ n) × (length (now p) ≡ n) × (length (now diag) ≡ n) ⌝ }
     requires { ⌜ j < n ⌝ }
-    ensures { λ r. ⌜ state (now (l .exit)) (now (c .exit)) (now (d .exit)) (now (e .exit)) (now (p .exit)) r ≡ step n delta beta j (state (now (l .entry)) (now (c .entry)) (now (d .entry)) (now (e .entry)) (now (p .entry)) marks) ⌝ }
+    ensures { λ q. ⌜ state (now (l .exit)) (now (c .exit)) (now (d .exit)) (now (e .exit)) (now (p .exit)) q ≡ step n delta beta j (state (now (l .entry)) (now (c .entry)) (now (d .entry)) (now (e .entry)) (now (p .entry)) r) ⌝ }
 {
-    let refused = marks.refused;
-    if refused.marked() {
-        return marks;
+    if r.stopped() {
+        return r;
     }
     let f = statements::search_diagonal(true, c, n, j, diag);
-    step_at(l, c, d, e, p, n, delta, beta, j, f.index, f.tied, marks)
+    step_at(l, c, d, e, p, n, delta, beta, j, f.index, f.tied, r)
 }
 
 pub fn steps(
@@ -339,18 +329,18 @@ pub fn steps(
     n: usize,
     delta: f64,
     beta: f64,
-    marks: Marks,
-) -> Marks
+    r: Progress,
+) -> Progress
     requires { ⌜ Square n (now l) ⌝ }
     requires { ⌜ Square n (now c) ⌝ }
     requires { ⌜ (length (now d) ≡ n) × (length (now e) ≡ n) × (length (now p) ≡ n) × (length (now diag) ≡ n) ⌝ }
-    ensures { λ r. ⌜ state (now (l .exit)) (now (c .exit)) (now (d .exit)) (now (e .exit)) (now (p .exit)) r ≡ range 0 n (step n delta beta) (state (now (l .entry)) (now (c .entry)) (now (d .entry)) (now (e .entry)) (now (p .entry)) marks) ⌝ }
+    ensures { λ q. ⌜ state (now (l .exit)) (now (c .exit)) (now (d .exit)) (now (e .exit)) (now (p .exit)) q ≡ range 0 n (step n delta beta) (state (now (l .entry)) (now (c .entry)) (now (d .entry)) (now (e .entry)) (now (p .entry)) r) ⌝ }
 {
-    let mut m = marks;
+    let mut q = r;
     for j in 0..n {
-        m = step(l, c, d, e, p, diag, n, delta, beta, j, m);
+        q = step(l, c, d, e, p, diag, n, delta, beta, j, q);
     }
-    m
+    q
 }
 
 // ---- after the steps
@@ -418,23 +408,19 @@ pub fn finish(
     p: &[usize],
     ec: &mut [f64],
     n: usize,
-    marks: Marks,
-) -> Marks
+    r: Progress,
+) -> Progress
     requires { ⌜ Square n (now l) ⌝ }
-    requires { ⌜ (marks .refused ≡ Never → AllFinite n (now l)) ⌝ }
+    requires { ⌜ (r .refused ≡ Never → AllFinite n (now l)) ⌝ }
     requires { ⌜ (length (now d) ≡ n) × (length (now e) ≡ n) × (length (now p) ≡ n) × (length (now ec) ≡ n) × (0 < n) ⌝ }
     requires { ⌜ AllBelow n (now p) ⌝ }
-    ensures { λ r. ⌜ ((c : List Float) → Finished n (now (l .entry)) c (now (d .entry)) (now (e .entry)) (now (p .entry)) marks (now (l .exit)) (now (e .exit)) r) ⌝ }
+    ensures { λ q. ⌜ ((c : List Float) → Finished n (now (l .entry)) c (now (d .entry)) (now (e .entry)) (now (p .entry)) r (now (l .exit)) (now (e .exit)) q) ⌝ }
 {
-    let tied = marks.tied;
-    let refused = marks.refused;
+    let refused = r.refused;
     if refused.marked() {
-        return marks;
+        return r;
     }
     let ok = scale(l, d, n);
     statements::reorder(p, e, ec, n);
-    Marks {
-        tied,
-        refused: refused.mark(!ok, n),
-    }
+    r.stored(ok, n)
 }

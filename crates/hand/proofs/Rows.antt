@@ -3,20 +3,22 @@ use mathlib.Core.Path.{_≡_, refl}
 use mathlib.Core.List.{[], _∷_}
 use lib.Ieee.{add, sub, mul, div, lt, eq, neg, isNan, ofBits}
 use Rattle.arithmetic.specs.First.{firstFrom}
+use Rattle.arithmetic.specs.Outcome.{_then_}
 use Rattle.arithmetic.specs.Sqrt.{checked-sqrt}
 use Rattle.arithmetic.specs.declared.outcome.Outcome.the-variants.{Complete, SizeOutOfRange}
 use Rattle.matrix.specs.Checks.{check-size}
 use Rattle.matrix.specs.Search.{largest}
 use Rattle.matrix.specs.Eigenvalues.{eigenvaluesOf}
-use Rattle.matrix.specs.Circles.{written, firstOverflow}
-use Rattle.matrix.specs.Calls.{search-checks, checked-eigenvalues-2x2, circle-checks}
-use Rattle.methods.specs.Factor.{se, factor, tolerances}
+use Rattle.matrix.specs.Calls.{search-checks, checked-eigenvalues-2x2}
+use Rattle.circles.specs.Circles.{setEach, firstOverflow, circle-checks}
+use Rattle.methods.specs.Factor.{factor, tolerances}
+use Rattle.methods.specs.declared.method.Method.the-variants.{Se}
 use Rattle.methods.specs.declared.decomposition.Mark.the-variants.{Step}
 use Rattle.methods.specs.declared.schnabel_eskow.Variant.the-variants.{Se99}
-use Rattle.hand.specs.Table.{4·, minus, All, table}
+use Rattle.hand.specs.Hand.{4·, minus, All, rows}
 
-pub hand-calculations : All table
-unfolding factor add sub mul div lt eq neg isNan ofBits firstFrom checked-sqrt checked-eigenvalues-2x2 search-checks largest circle-checks written firstOverflow eigenvaluesOf
+pub hand-calculations : All rows
+unfolding factor add sub mul div lt eq neg isNan ofBits firstFrom checked-sqrt checked-eigenvalues-2x2 search-checks largest circle-checks setEach firstOverflow _then_ eigenvaluesOf
 hand-calculations = (refl, (refl, (refl, (refl, (refl, (refl, (refl, (refl, (refl, (refl, (refl, (refl, ((refl, refl), (refl, tt))))))))))))))
 
 -- ---- outside the table
@@ -29,6 +31,6 @@ size-49 = refl
 pub size-0 : check-size 0 ≡ SizeOutOfRange
 size-0 = refl
 
-pub se99-enters : factor (se Se99) tolerances 1 (minus 4· ∷ []) .decomposition .phase2 ≡ Step 0
+pub se99-enters : factor (Se Se99) tolerances 1 (minus 4· ∷ []) .decomposition .phase2 ≡ Step 0
 unfolding factor add sub mul div lt eq neg isNan ofBits
 se99-enters = refl

@@ -1,1 +1,1 @@
-// Theorems only: document 01's hand calculations, as a table in specs/Table.antt.
+// Theorems only: document 01's hand calculations, as the rows of specs/Hand.antt.

@@ -1,5 +1,5 @@
 -- How two runs end, and that what is handed back is then alike: one argument for the three methods.
-use mathlib.Core.Path.{_≡_, refl, sym, _∙_}
+use mathlib.Core.Path.{_≡_, refl, sym, ap, _∙_}
 use mathlib.Core.List.{List}
 use Prim.Native.Nat.{ℕ, _<_}
 use native.Mathlib.Omega.{arith}
@@ -7,50 +7,80 @@ use lib.ListN.{getD, getD-replicate}
 use lib.Ieee.{Float, nan}
 use Rattle.arithmetic.specs.Double.{plus-zero}
 use Rattle.arithmetic.specs.declared.outcome.Outcome.the-variants.{Complete, StoredNotFinite}
+use Rattle.methods.specs.Reloading.{LoadOrder}
 use Rattle.methods.specs.Result.{Result, handBack}
 use Rattle.methods.specs.declared.decomposition.Mark.{Mark}
 use Rattle.methods.specs.declared.decomposition.Mark.the-variants.{Never, Step}
-use Rattle.load_order.specs.LoadOrder.{LoadOrder, AlikeThroughout, Alike}
-use Rattle.load_order.proofs.Picks.{clash}
+use Rattle.methods.specs.declared.progress.Progress.{Progress}
+use Rattle.methods.proofs.LoadOrders.{order}
+use Rattle.methods.proofs.MarkLaws.{clash}
+use Rattle.methods.proofs.Stopped.{Going}
+use Rattle.load_order.specs.LoadOrder.{AlikeThroughout, Alike}
+use Rattle.load_order.proofs.Lockstep.{Steps, InStep, Runs, together, apart}
 
 -- a run's values at its end, before refusal 9's fillings
 pub record End : Type 0 where
-  pub tied : Mark
-  pub phase2 : Mark
-  pub refused : Mark
+  pub progress : Progress
   pub l : List Float
   pub e : List Float
   pub p : List ℕ
 
 abbrev pub handed : ℕ → End → Result
-handed n r = handBack n (r .tied) (r .phase2) (r .refused) (r .l) (r .e) (r .p)
+handed n r = handBack n (r .progress) (r .l) (r .e) (r .p)
+
+-- what is alike of two complete runs; s is the load order
+pub record Completed (n : ℕ) (s : List ℕ) (A B : End) : Type 0 where
+  pub factors : A .l ≡ B .l
+  pub amounts : (i : ℕ) → i < n → getD (B .e) i nan ≡ getD (A .e) (getD s i 0) nan
+  pub pivots : (t : ℕ) → t < n → getD (A .p) t 0 ≡ getD s (getD (B .p) t 0) 0
 
 pub data Ended (n : ℕ) (s : List ℕ) (A B : End) : Type 0 where
-  both-tied : (t : ℕ) → A .tied ≡ Step t → B .tied ≡ Step t → Ended n s A B
-  both-left : (t : ℕ) → A .tied ≡ B .tied → A .phase2 ≡ Step t → B .phase2 ≡ Step t → Ended n s A B
-  both-refused : (t : ℕ) → A .tied ≡ B .tied → A .phase2 ≡ B .phase2 → A .refused ≡ Step t → B .refused ≡ Step t → Ended n s A B
-  both-complete : A .tied ≡ B .tied → A .phase2 ≡ B .phase2 → A .refused ≡ Never → B .refused ≡ Never → A .l ≡ B .l
-      → ((i : ℕ) → i < n → getD (B .e) i nan ≡ getD (A .e) (getD s i 0) nan)
-      → ((t : ℕ) → t < n → getD (A .p) t 0 ≡ getD s (getD (B .p) t 0) 0) → Ended n s A B
+  both-tied : (t : ℕ) → A .progress .tied ≡ Step t → B .progress .tied ≡ Step t → Ended n s A B
+  both-left : (t : ℕ) → A .progress .tied ≡ B .progress .tied → A .progress .phase2 ≡ Step t → B .progress .phase2 ≡ Step t → Ended n s A B
+  both-alike : A .progress ≡ B .progress → (A .progress .refused ≡ Never → Completed n s A B) → Ended n s A B
 
+-- ---- what is handed back
 refused-not-complete : (t : ℕ) → StoredNotFinite t ≡ Complete → ⊥
 refused-not-complete t e = let z : _≡_ {A = ℕ} 0 1 = cc in omega arith
 
 module _ (n : ℕ) (s : List ℕ) (A B : End) (L : LoadOrder n s) where
-  throughout-refused : (t : ℕ) → A .refused ≡ Step t → B .refused ≡ Step t → AlikeThroughout n s (handed n A) (handed n B)
-  throughout-refused t p q = rw (p, q) (record {
+  throughout : (m : Mark) → A .progress .refused ≡ m → B .progress .refused ≡ m → (A .progress .refused ≡ Never → Completed n s A B) → AlikeThroughout n s (handed n A) (handed n B)
+  throughout Never p q c = rw (p, q) (record { outcome = refl; factors = c p .factors; amounts = c p .amounts; pivots = λ h. c p .pivots })
+  throughout (Step t) p q c = rw (p, q) (record {
     outcome = refl;
     factors = refl;
     amounts = λ i h. getD-replicate n i plus-zero nan h ∙ sym (getD-replicate n (getD s i 0) plus-zero nan (L .below i h));
     pivots = λ e. absurd (refused-not-complete t e);
   })
 
-  throughout-complete : A .refused ≡ Never → B .refused ≡ Never → A .l ≡ B .l → ((i : ℕ) → i < n → getD (B .e) i nan ≡ getD (A .e) (getD s i 0) nan)
-      → ((t : ℕ) → t < n → getD (A .p) t 0 ≡ getD s (getD (B .p) t 0) 0) → AlikeThroughout n s (handed n A) (handed n B)
-  throughout-complete p q l e o = rw (p, q) (record { outcome = refl; factors = l; amounts = e; pivots = λ c. o })
-
   pub ended-alike : Ended n s A B → Alike n s (handed n A) (handed n B)
-  ended-alike (both-tied t p q) = record { tied = p ∙ sym q; phase2 = λ h. clash (A .tied) t h p; throughout = λ h. clash (A .tied) t h p }
-  ended-alike (both-left t e p q) = record { tied = e; phase2 = λ h. p ∙ sym q; throughout = λ h k. clash (A .phase2) t k p }
-  ended-alike (both-refused t e f p q) = record { tied = e; phase2 = λ h. f; throughout = λ h k. throughout-refused t p q }
-  ended-alike (both-complete e f p q l a o) = record { tied = e; phase2 = λ h. f; throughout = λ h k. throughout-complete p q l a o }
+  ended-alike (both-tied t p q) = record { tied = p ∙ sym q; phase2 = λ h. clash (A .progress .tied) t h p; throughout = λ h. clash (A .progress .tied) t h p }
+  ended-alike (both-left t e p q) = record { tied = e; phase2 = λ h. p ∙ sym q; throughout = λ h k. clash (A .progress .phase2) t k p }
+  ended-alike (both-alike e c) = record {
+    tied = ap (λ (r : Progress). r .tied) e;
+    phase2 = λ h. ap (λ (r : Progress). r .phase2) e;
+    throughout = λ h k. throughout (A .progress .refused) refl (sym (ap (λ (r : Progress). r .refused) e)) c;
+  }
+
+-- ---- from the end of the steps to the end of the run
+-- what the end of a run keeps of its progress
+pub record ProgressKept (r : Progress) (end : End) : Type 0 where
+  pub tied : end .progress .tied ≡ r .tied
+  pub phase2 : end .progress .phase2 ≡ r .phase2
+  pub refused : (t : ℕ) → r .refused ≡ Step t → r .phase2 ≡ Never → end .progress ≡ r
+
+module _ {Run : Type 0} (M : Steps Run) (n : ℕ) (s : List ℕ) (Values : (ℕ → ℕ) → ℕ → Run → Run → Type 0) (May : Type 0) (A B : Run) (A' B' : End)
+    (F : ProgressKept (M .progress A) A') (G : ProgressKept (M .progress B) B') where
+  pub runs-end : (InStep M n (order s) Values n A B → M .progress A ≡ M .progress B → Going (M .progress A) → Ended n s A' B') → Runs M n (order s) Values May n A B → Ended n s A' B'
+  runs-end complete (apart m t p q) = both-tied t (F .tied ∙ p) (G .tied ∙ q)
+  runs-end complete (together T) = go (M .progress A .phase2) refl (M .progress A .refused) refl
+    where
+      go : (m : Mark) → M .progress A .phase2 ≡ m → (q : Mark) → M .progress A .refused ≡ q → Ended n s A' B'
+      go (Step t) p q e = both-left t
+          (F .tied ∙ ap (λ (r : Progress). r .tied) (T .same) ∙ sym (G .tied))
+          (F .phase2 ∙ p) (G .phase2 ∙ sym (ap (λ (r : Progress). r .phase2) (T .same)) ∙ p)
+      go Never p (Step t) e =
+          let same : A' .progress ≡ B' .progress =
+          F .refused t e p ∙ T .same ∙ sym (G .refused t (sym (ap (λ (r : Progress). r .refused) (T .same)) ∙ e) (sym (ap (λ (r : Progress). r .phase2) (T .same)) ∙ p)) in
+          both-alike same (λ h. clash (A' .progress .refused) t h (ap (λ (r : Progress). r .refused) (F .refused t e p) ∙ e))
+      go Never p Never e = complete (rw p at (T .in-step e)) (T .same) (record { phase2 = p; refused = e })

@@ -1,8 +1,7 @@
-pub mod Inverse
-pub mod Picks
 pub mod Positions
-pub mod SeRuns
+pub mod Picks
+pub mod Lockstep
 pub mod Ends
-pub mod SeTheorem
-pub mod GmwRuns
+pub mod Gmw81
+pub mod Se
 pub mod Theorem

@@ -1,28 +1,9 @@
 -- Bijections of the positions a to b - 1, and tests and folds along them.
 use mathlib.Core.Path.{_≡_, refl, sym, ap, _∙_}
-use mathlib.Core.Bool.{Bool, true, false}
 use Prim.Native.Nat.{ℕ, _+_, _-_, _≤_, _<_}
 use native.Mathlib.Decide.{decLt, ℕ-discrete}
 use native.Mathlib.Omega.{arith}
 use Rattle.matrix.proofs.SwapLaws.{transpose, transpose-first, transpose-second, transpose-low, transpose-lt, transpose-twice}
-
--- ---- by the value of a test, with the equation
-pub data Is (b : Bool) : Type 0 where
-  holds : b ≡ true → Is b
-  fails : b ≡ false → Is b
-
-pub is : (b : Bool) → Is b
-is true = holds refl
-is false = fails refl
-
-pub same-tests : (a b : Bool) → (a ≡ true → b ≡ true) → (b ≡ true → a ≡ true) → a ≡ b
-same-tests true b f g = sym (f refl)
-same-tests false true f g = g refl
-same-tests false false f g = refl
-
-pub not-holds : (b : Bool) → (b ≡ true → ⊥) → b ≡ false
-not-holds true h = absurd (h refl)
-not-holds false h = refl
 
 -- ---- σ and τ are each other's inverses
 pub record Bijection (a b : ℕ) (σ τ : ℕ → ℕ) : Type 0 where

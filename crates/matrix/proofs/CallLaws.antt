@@ -8,12 +8,13 @@ use borrow.Author.Tests.{eqb-false}
 use lib.Dec.{eqb}
 use lib.ListN.{length}
 use lib.Ieee.{Float}
-use Rattle.arithmetic.specs.Outcome.{complete, _then_, refuse-complete}
+use Rattle.arithmetic.specs.Outcome.{complete, _then_}
+use Rattle.arithmetic.proofs.OutcomeLaws.{refuse-complete}
 use Rattle.arithmetic.specs.declared.outcome.Outcome.{Outcome}
 use Rattle.arithmetic.specs.declared.outcome.Outcome.the-variants.{SizeOutOfRange}
 use Rattle.matrix.specs.Matrix.{Square}
 use Rattle.matrix.specs.Plain.{AllBelow}
-use Rattle.matrix.specs.Checks.{check-size, check-some, check-matrix, check-buffer, check-index, check-indices, check-finite}
+use Rattle.matrix.specs.Checks.{check-size, check-some, check-buffer, check-indices, check-finite}
 use Rattle.matrix.specs.Calls.{matrixCall, swap-checks, search-checks, permutation-checks, diagonal-checks}
 use Rattle.matrix.proofs.CheckLaws.{Accepted, complete-accepted, not-complete, both-accepted, size-accepted, matrix-accepted, buffer-accepted, index-accepted, indices-accepted}
 
@@ -21,24 +22,24 @@ use Rattle.matrix.proofs.CheckLaws.{Accepted, complete-accepted, not-co
 pub swap-accepted : (n : ℕ) (mat : List Float) (idx1 idx2 : ℕ) → Accepted (swap-checks n (length mat) idx1 idx2) → Square n mat × ((idx1 < n) × (idx2 < n))
 unfolding swap-checks
 swap-accepted n mat idx1 idx2 h =
-    let s = both-accepted (check-size n) (check-matrix n (length mat) then check-index n 0 idx1 then check-index n 1 idx2) h in
-    let m = both-accepted (check-matrix n (length mat)) (check-index n 0 idx1 then check-index n 1 idx2) (s .1) in
-    let i = both-accepted (check-index n 0 idx1) (check-index n 1 idx2) (m .1) in
-    (record { len = matrix-accepted n (length mat) (m .0); small = size-accepted n (s .0) .1 }, (index-accepted n 0 idx1 (i .0), index-accepted n 1 idx2 (i .1)))
+    let j = both-accepted _ _ h in
+    let i = both-accepted _ _ (j .0) in
+    let m = both-accepted _ _ (i .0) in
+    (record { len = matrix-accepted n (length mat) (m .1); small = size-accepted n (m .0) .1 }, (index-accepted n 0 idx1 (i .1), index-accepted n 1 idx2 (j .1)))
 
 some-accepted : (c : List Float) → Accepted (check-some c) → 0 < length c
 some-accepted c h = omega (arith, eqb-false (length c) 0 (refuse-complete (eqb (length c) 0) SizeOutOfRange refl (h .is)))
 
 pub search-accepted : (c : List Float) → Accepted (search-checks c) → 0 < length c
 unfolding search-checks
-search-accepted c h = some-accepted c (both-accepted (check-some c) (check-finite 1 c) h .0)
+search-accepted c h = some-accepted c (both-accepted _ _ h .0)
 
 -- n rows of n in a buffer, and whatever else is checked
 square-accepted : (n : ℕ) (mat : List Float) (rest : Outcome) → Accepted (check-size n then check-buffer (n * n) (length mat) then rest) → Square n mat × Accepted rest
 square-accepted n mat rest h =
-    let s = both-accepted (check-size n) (check-buffer (n * n) (length mat) then rest) h in
-    let b = both-accepted (check-buffer (n * n) (length mat)) rest (s .1) in
-    (record { len = buffer-accepted (n * n) (length mat) (b .0); small = size-accepted n (s .0) .1 }, b .1)
+    let r = both-accepted _ _ h in
+    let s = both-accepted _ _ (r .0) in
+    (record { len = buffer-accepted (n * n) (length mat) (s .1); small = size-accepted n (s .0) .1 }, r .1)
 
 pub permutation-accepted : (idxs : List ℕ) (mat : List Float) → Accepted (permutation-checks idxs (length mat)) → Square (length idxs) mat × AllBelow (length idxs) idxs
 unfolding permutation-checks

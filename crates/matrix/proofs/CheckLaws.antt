@@ -14,16 +14,20 @@ use lib.Ieee.{Float, nan, binary64, toBits, ofBits, fits}
 use lib.Ieee.Bits.{ofBits-toBits}
 use lib.Ieee.Scale.{finite}
 use borrow.Author.Tests.{not-true, not-false, eqb-true, eqb-false, eq-eqb, ne-eqb, ltb-false, lt-ltb, le-ltb, leb-true, leb-false, le-leb}
-use Rattle.arithmetic.specs.All.{all, all-each, all-true}
-use Rattle.arithmetic.specs.First.{first, firstFrom, first-is}
-use Rattle.arithmetic.specs.Order.{or-1, or-2}
-use Rattle.arithmetic.specs.Outcome.{complete, refuse, _then_, then-complete, refuse-complete}
+use Rattle.arithmetic.specs.All.{all}
+use Rattle.arithmetic.proofs.AllLaws.{all-each, all-true}
+use Rattle.arithmetic.specs.First.{first, firstFrom}
+use Rattle.arithmetic.proofs.FirstLaws.{first-is}
+use Rattle.arithmetic.proofs.OrderLaws.{or-1, or-2}
+use Rattle.arithmetic.specs.Outcome.{complete, refuse, _then_}
+use Rattle.arithmetic.proofs.OutcomeLaws.{then-complete, refuse-complete}
 use Rattle.arithmetic.specs.declared.outcome.Outcome.{Outcome}
 use Rattle.arithmetic.specs.declared.outcome.Outcome.the-variants.{Complete, SizeOutOfRange, MatrixLength, BufferLength, IndexOutOfRange, NotFinite, Unsymmetric}
-use Rattle.matrix.specs.Matrix.{Square, at, cell-lt}
+use Rattle.matrix.specs.Matrix.{Square, at}
+use Rattle.matrix.proofs.CellLaws.{cell-lt}
 use Rattle.matrix.specs.Checks.{check-size, check-matrix, check-buffer, check-index, check-indices, check-finite, check-symmetric, outOfRange, notFinite, firstNotFinite, sameBits, unsymmetric, firstUnsymmetric, AllFinite}
 use Rattle.matrix.specs.Plain.{AllBelow}
-use Rattle.matrix.proofs.Bijection.{same-tests}
+use Rattle.arithmetic.proofs.Cases.{same-tests}
 
 -- ---- a loop that searches up to n, at i: what it still has to find
 pub search-start : (bad : ℕ → Bool) (n : ℕ) → firstFrom bad 0 n ≡ firstFrom bad 0 (n - 0)
@@ -69,10 +73,16 @@ module _ {o r : Outcome} {b : Bool} (runs : r ≡ o) (asks : b ≡ complete r) w
   not-accepted h = not-complete (not-true b h)
 
   pub refused : (rest : Outcome) → not b ≡ true → r ≡ (o then rest)
+  unfolding _then_
   refused rest h = rw (not-accepted h, runs)
+
+-- two checks of a chain, each run
+pub links : {o rest p q r : Outcome} → r ≡ (p then q) → p ≡ o → q ≡ rest → r ≡ (o then rest)
+links e f g = e ∙ rw (f, g)
 
 -- the rest of a chain decides where its first check is accepted
 pub goes-on : {o rest s : Outcome} → Accepted o → s ≡ rest → s ≡ (o then rest)
+unfolding _then_
 goes-on A e = rw (A .is, e)
 
 -- each check of a chain is accepted where the chain is
@@ -81,6 +91,7 @@ both-accepted o rest h = let t = then-complete o rest (h .is) in (record { is = 
 
 -- what holds of each check holds of the chain
 pub then-keeps : (P : Outcome → Type 0) (o rest : Outcome) → P o → (Accepted o → P rest) → P (o then rest)
+unfolding _then_
 then-keeps P o rest p q = go (complete o) refl
   where
     go : (b : Bool) → complete o ≡ b → P (cond b rest o)

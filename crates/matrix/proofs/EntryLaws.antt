@@ -8,7 +8,8 @@ use native.Mathlib.Omega.{arith}
 use lib.ListN.{length, getD, length-set}
 use lib.Seq.{getD-set-same, getD-set-other, ext-getD}
 use lib.Ieee.{Float, nan}
-use Rattle.matrix.specs.Matrix.{at, put, cell-lt}
+use Rattle.matrix.specs.Matrix.{at, put}
+use Rattle.matrix.proofs.CellLaws.{cell-lt}
 
 -- n rows of n entries
 abbrev pub Entries : ℕ → List Float → Type 0

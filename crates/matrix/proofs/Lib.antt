@@ -1,3 +1,5 @@
+pub mod CellLaws
+pub mod TableLaws
 pub mod EntryLaws
 pub mod SwapLaws
 pub mod Bijection
@@ -5,4 +7,3 @@ pub mod SearchLaws
 pub mod Filled
 pub mod CheckLaws
 pub mod CallLaws
-pub mod CircleLaws

@@ -10,11 +10,12 @@ use lib.ListN.{length, getD}
 use lib.Dec.{ltb}
 use borrow.Author.Tests.{ltb-true, ltb-false}
 use lib.Ieee.{Float, nan, lt, eq, isNan}
-use Rattle.arithmetic.specs.Loop.{range, range-ind}
-use Rattle.arithmetic.specs.Order.{lt-irreflexive, lt-transitive, lt-cotransitive, lt-total, eq-not-lt, eq-symmetric}
+use Rattle.arithmetic.proofs.LoopLaws.{range-ind}
+use Rattle.arithmetic.proofs.OrderLaws.{lt-irreflexive, lt-transitive, lt-cotransitive, lt-total, eq-not-lt, eq-symmetric}
 use Rattle.matrix.specs.Search.{key, look, bestOf, tally, countEqual, largest}
 use Rattle.matrix.specs.declared.utils.Best.{Best}
-use Rattle.matrix.proofs.Bijection.{Is, is, holds, fails, same-tests, not-holds, Bijection, inverse, Along, along-inverse}
+use Rattle.arithmetic.proofs.Cases.{Is, is, holds, fails, same-tests, not-holds}
+use Rattle.matrix.proofs.Bijection.{Bijection, inverse, Along, along-inverse}
 
 -- what a search compares at position i
 abbrev pub candidate : Bool → List Float → ℕ → Float

@@ -10,8 +10,9 @@ use lib.Seq.{getD-set-same, getD-set-other}
 use lib.Dec.{eqb}
 use borrow.Author.Tests.{eq-eqb, ne-eqb}
 use lib.Ieee.{Float, nan}
-use Rattle.arithmetic.specs.Loop.{range-ind}
-use Rattle.matrix.specs.Matrix.{at, cell-lt}
+use Rattle.arithmetic.proofs.LoopLaws.{range-ind}
+use Rattle.matrix.specs.Matrix.{at}
+use Rattle.matrix.proofs.CellLaws.{cell-lt}
 use Rattle.matrix.specs.Swap.{swap, swapInRows, swapInColumns, swap-rows, swap-columns}
 use Rattle.matrix.proofs.EntryLaws.{Entries, cell-row, cell-column, same-entries}
 

@@ -3,19 +3,16 @@ use mathlib.Core.List.{List, [], _∷_}
 use mathlib.Core.Bool.{Bool, cond, not, _&&_}
 use Prim.Native.Nat.{ℕ, _*_}
 use lib.ListN.{length}
-use lib.Dec.{ltb}
 use lib.Ieee.{Float}
 use lib.Ieee.Scale.{finite}
 use Rattle.arithmetic.specs.Double.{plus-zero}
 use Rattle.arithmetic.specs.Outcome.{complete, refuse, _then_}
 use Rattle.arithmetic.specs.declared.outcome.Outcome.{Outcome}
 use Rattle.arithmetic.specs.declared.outcome.Outcome.the-variants.{StoredNotFinite}
-use Rattle.matrix.specs.Matrix.{zeros}
 use Rattle.matrix.specs.Swap.{swap-rows, swap-columns}
 use Rattle.matrix.specs.Search.{largest}
 use Rattle.matrix.specs.Eigenvalues.{entry, eigenvalues-2x2}
 use Rattle.matrix.specs.Plain.{index-to-permutation-mat, diag-mat-from-arr}
-use Rattle.matrix.specs.Circles.{written, centre, radius, firstOverflow}
 use Rattle.matrix.specs.Checks.{check-size, check-some, check-matrix, check-buffer, check-index, check-indices, check-finite}
 use Rattle.matrix.specs.declared.utils.Eigen.{Eigen}
 use Rattle.matrix.specs.declared.utils.EigenAnswer.{EigenAnswer}
@@ -53,15 +50,19 @@ blockList mat = entry mat 0 0 ∷ entry mat 0 1 ∷ entry mat 1 0 ∷ entry mat 
 abbrev pub bothFinite : Eigen → Bool
 bothFinite e = finite (e .hi) && finite (e .lo)
 
-unfoldable pub eigen-checks : List (List Float) → Outcome
-eigen-checks mat = check-finite 2 (blockList mat) then refuse (not (bothFinite (eigenvalues-2x2 mat))) (StoredNotFinite 0)
+abbrev pub check-eigen : Eigen → Outcome
+check-eigen e = refuse (not (bothFinite e)) (StoredNotFinite 0)
+
+unfoldable pub eigen-checks : List (List Float) → Eigen → Outcome
+eigen-checks mat e = check-finite 2 (blockList mat) then check-eigen e
 
 abbrev pub noEigen : Eigen
 noEigen = record { hi = plus-zero; lo = plus-zero }
 
 unfoldable pub checked-eigenvalues-2x2 : List (List Float) → EigenAnswer
 unfolding eigen-checks
-checked-eigenvalues-2x2 mat = record { outcome = eigen-checks mat; eigen = cond (complete (eigen-checks mat)) (eigenvalues-2x2 mat) noEigen }
+checked-eigenvalues-2x2 mat = let e = eigenvalues-2x2 mat in
+    record { outcome = eigen-checks mat e; eigen = cond (complete (eigen-checks mat e)) e noEigen }
 
 -- ---- permutation matrix: 3, 5, 6
 unfoldable pub permutation-checks : List ℕ → ℕ → Outcome
@@ -76,30 +77,3 @@ diagonal-checks arr len = check-size (length arr) then check-buffer (length arr 
 
 abbrev pub checked-diag-mat-from-arr : List Float → List Float → MatrixCall
 checked-diag-mat-from-arr arr mat = matrixCall (diagonal-checks arr (length mat)) (diag-mat-from-arr arr) mat
-
--- ---- circles: 3, 4, 5, 7, and 9 at the first row with an infinite sum, both lists then +0.0
-pub record CirclesCall : Type 0 where
-  pub outcome : Outcome
-  pub centres : List Float
-  pub radii : List Float
-
-abbrev pub circlesCall : Outcome → List Float → List Float → CirclesCall
-circlesCall outcome centres radii = record { outcome = outcome; centres = centres; radii = radii }
-
-unfoldable pub circle-checks : ℕ → List Float → ℕ → ℕ → Outcome
-circle-checks n mat centres radii = check-size n then check-matrix n (length mat) then check-buffer n centres then check-buffer n radii then check-finite n mat
-
-abbrev pub overflow : ℕ → List Float → Outcome
-overflow n mat = refuse (ltb (firstOverflow n mat) n) (StoredNotFinite (firstOverflow n mat))
-
-abbrev pub gershgorin-circles : ℕ → List Float → List Float → List Float → CirclesCall
-gershgorin-circles n mat centres radii =
-    cond (complete (overflow n mat))
-    (circlesCall (overflow n mat) (written (centre n mat) n centres) (written (radius n mat) n radii))
-    (circlesCall (overflow n mat) (zeros n) (zeros n))
-
-abbrev pub checked-gershgorin-circles : ℕ → List Float → List Float → List Float → CirclesCall
-checked-gershgorin-circles n mat centres radii =
-    cond (complete (circle-checks n mat (length centres) (length radii)))
-    (gershgorin-circles n mat centres radii)
-    (circlesCall (circle-checks n mat (length centres) (length radii)) centres radii)

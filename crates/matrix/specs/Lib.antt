@@ -4,6 +4,5 @@ pub mod Swap
 pub mod Search
 pub mod Eigenvalues
 pub mod Plain
-pub mod Circles
 pub mod Checks
 pub mod Calls

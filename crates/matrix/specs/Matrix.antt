@@ -1,9 +1,7 @@
 -- A matrix of n rows is the list of its n * n entries in row order.
 use mathlib.Core.Path.{_≡_}
 use mathlib.Core.List.{List}
-use Prim.Native.Nat.{ℕ, suc, _+_, _*_, _≤_, _<_}
-use native.Mathlib.Nat.{mul-le-mul-right, mul-le-mul-left, suc-mul, le-trans}
-use native.Mathlib.Omega.{arith}
+use Prim.Native.Nat.{ℕ, _+_, _*_, _≤_}
 use lib.ListN.{length, getD, set, replicate}
 use lib.Ieee.{Float, nan}
 use Rattle.arithmetic.specs.Double.{plus-zero}
@@ -24,9 +22,3 @@ zeros k = replicate k plus-zero
 pub record Square (n : ℕ) (m : List Float) : Type 0 where
   pub len : length m ≡ n * n
   pub small : n ≤ 48
-
-pub cell-lt : (n i j : ℕ) → i < n → j < n → i * n + j < n * n
-cell-lt n i j hi hj = let a : suc i * n ≤ n * n = mul-le-mul-right n hi in let b : suc i * n ≡ i * n + n = suc-mul i n in omega arith
-
-pub square-small : (n : ℕ) → n ≤ 48 → n * n ≤ 2304
-square-small n h = le-trans (mul-le-mul-right n h) (mul-le-mul-left 48 h)

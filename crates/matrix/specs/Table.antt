@@ -1,21 +1,7 @@
 -- The list of f 0, f 1, .., f (k - 1).
-use mathlib.Core.Path.{_≡_, refl, ap}
 use mathlib.Core.List.{List, [], _∷_}
-use Prim.Native.Nat.{ℕ, zero, suc, _<_}
-use native.Mathlib.Omega.{arith}
-use lib.ListN.{length, getD}
+use Prim.Native.Nat.{ℕ, zero, suc}
 
 unfoldable pub table : {A : Type 0} → ℕ → (ℕ → A) → List A
 table zero f = []
 table (suc k) f = f zero ∷ table k (λ i. f (suc i))
-
-pub length-table : {A : Type 0} (k : ℕ) (f : ℕ → A) → length (table k f) ≡ k
-unfolding table
-length-table zero f = refl
-length-table (suc k) f = ap suc (length-table k (λ i. f (suc i)))
-
-pub getD-table : {A : Type 0} (k : ℕ) (f : ℕ → A) (i : ℕ) (d : A) → i < k → getD (table k f) i d ≡ f i
-unfolding table
-getD-table zero f i d h = absurd (omega arith)
-getD-table (suc k) f zero d h = refl
-getD-table (suc k) f (suc i) d h = getD-table k (λ t. f (suc t)) i d (omega arith)

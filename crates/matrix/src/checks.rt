@@ -2,6 +2,7 @@
 ghost use mathlib.Core.Path.{_≡_};
 ghost use Prim.Native.Nat.{_+_, _*_, _/_, _%_, _<_, _≤_};
 ghost use lib.ListN.{length, getD};
+ghost use lib.Dec.{eqb};
 ghost use lib.Ieee.{nan};
 ghost use lib.Ieee.Scale.{finite};
 ghost use Rattle.arithmetic.specs.All.{all};
@@ -32,11 +33,20 @@ pub fn check_some(c: &[f64]) -> Outcome
     Outcome::Complete
 }
 
+// Whether len is n * n; where the product has no room, no length is as large.
+fn is_square(n: usize, len: usize) -> bool
+    ensures { λ r. ⌜ r ≡ eqb len (n * n) ⌝ }
+{
+    if n < 0x1_0000_0000 {
+        return len == n * n;
+    }
+    false
+}
+
 pub fn check_matrix(n: usize, len: usize) -> Outcome
-    requires { ⌜ n ≤ 48 ⌝ }
     ensures { λ r. ⌜ r ≡ check-matrix n len ⌝ }
 {
-    if len != n * n {
+    if !is_square(n, len) {
         return Outcome::MatrixLength;
     }
     Outcome::Complete
@@ -46,6 +56,16 @@ pub fn check_buffer(wanted: usize, len: usize) -> Outcome
     ensures { λ r. ⌜ r ≡ check-buffer wanted len ⌝ }
 {
     if len != wanted {
+        return Outcome::BufferLength;
+    }
+    Outcome::Complete
+}
+
+// A buffer for n rows of n.
+pub fn check_square_buffer(n: usize, len: usize) -> Outcome
+    ensures { λ r. ⌜ r ≡ check-buffer (n * n) len ⌝ }
+{
+    if !is_square(n, len) {
         return Outcome::BufferLength;
     }
     Outcome::Complete
@@ -100,18 +120,26 @@ fn first_not_finite(m: &[f64]) -> usize
     len
 }
 
+// Position k in rows of n; rows of 0 are one row without an end.
+pub fn not_finite_at(n: usize, k: usize) -> Outcome
+    ensures { λ r. ⌜ r ≡ Outcome.NotFinite (k / n) (k % n) ⌝ }
+{
+    if n == 0 {
+        return Outcome::NotFinite { row: 0, column: k };
+    }
+    Outcome::NotFinite {
+        row: k / n,
+        column: k % n,
+    }
+}
+
 pub fn check_finite(n: usize, m: &[f64]) -> Outcome
-    requires { ⌜ 0 < n ⌝ }
     ensures { λ r. ⌜ r ≡ check-finite n (now (m .entry)) ⌝ }
 {
     if list_finite(m, 0) {
         return Outcome::Complete;
     }
-    let k = first_not_finite(m);
-    Outcome::NotFinite {
-        row: k / n,
-        column: k % n,
-    }
+    not_finite_at(n, first_not_finite(m))
 }
 
 // The first column after i at which row i has other bits than column i, or n.

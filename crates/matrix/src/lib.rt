@@ -2,5 +2,4 @@
 // Rust's name has its statements and asks for operands that fit, and `checked_` with that name is the call that refuses.
 pub mod checks;
 pub mod entries;
-pub mod gershgorin;
 pub mod utils;

@@ -9,7 +9,7 @@ ghost use Rattle.matrix.specs.Swap.{swap, swap-rows, swap-columns};
 ghost use Rattle.matrix.specs.Search.{key, better, bestOf, countEqual, largest};
 ghost use Rattle.matrix.specs.Eigenvalues.{ordered, eigenvalues-2x2};
 ghost use Rattle.matrix.specs.Plain.{AllBelow, index-to-permutation-mat, diag-mat-from-arr};
-ghost use Rattle.matrix.specs.Calls.{swap-checks, checked-swap-rows, checked-swap-columns, search-checks, checked-search, eigen-checks, checked-eigenvalues-2x2, permutation-checks, checked-index-to-permutation-mat, diagonal-checks, checked-diag-mat-from-arr};
+ghost use Rattle.matrix.specs.Calls.{swap-checks, checked-swap-rows, checked-swap-columns, search-checks, checked-search, check-eigen, eigen-checks, checked-eigenvalues-2x2, permutation-checks, checked-index-to-permutation-mat, diagonal-checks, checked-diag-mat-from-arr};
 use crate::checks;
 use crate::entries::cell;
 use crate::entries::clear;
@@ -53,19 +53,10 @@ pub fn swap_columns(mat: &mut [f64], n: usize, idx1: usize, idx2: usize)
 fn swap_checks(n: usize, len: usize, idx1: usize, idx2: usize) -> Outcome
     ensures { λ r. ⌜ r ≡ swap-checks n len idx1 idx2 ⌝ }
 {
-    let size = checks::check_size(n);
-    if !size.complete() {
-        return size;
-    }
-    let matrix = checks::check_matrix(n, len);
-    if !matrix.complete() {
-        return matrix;
-    }
-    let first = checks::check_index(n, 0, idx1);
-    if !first.complete() {
-        return first;
-    }
-    checks::check_index(n, 1, idx2)
+    checks::check_size(n)
+        .then(checks::check_matrix(n, len))
+        .then(checks::check_index(n, 0, idx1))
+        .then(checks::check_index(n, 1, idx2))
 }
 
 pub fn checked_swap_rows(mat: &mut [f64], n: usize, idx1: usize, idx2: usize) -> Outcome
@@ -174,11 +165,7 @@ pub struct SearchAnswer {
 fn search_checks(c: &[f64]) -> Outcome
     ensures { λ r. ⌜ r ≡ search-checks (now (c .entry)) ⌝ }
 {
-    let some = checks::check_some(c);
-    if !some.complete() {
-        return some;
-    }
-    checks::check_finite(1, c)
+    checks::check_some(c).then(checks::check_finite(1, c))
 }
 
 fn checked_search(magnitude: bool, c: &[f64]) -> SearchAnswer
@@ -245,21 +232,23 @@ pub struct EigenAnswer {
     pub eigen: Eigen,
 }
 
-fn eigen_checks(mat: [[f64; 2]; 2], e: Eigen) -> Outcome
-    requires { ⌜ e ≡ eigenvalues-2x2 mat ⌝ }
-    ensures { λ r. ⌜ r ≡ eigen-checks mat ⌝ }
+// 9, at step 0.
+fn check_eigen(e: Eigen) -> Outcome
+    ensures { λ r. ⌜ r ≡ check-eigen e ⌝ }
 {
-    let entries = [mat[0][0], mat[0][1], mat[1][0], mat[1][1]];
-    let operands = checks::check_finite(2, &entries);
-    if !operands.complete() {
-        return operands;
-    }
     if finite(e.hi) {
         if finite(e.lo) {
             return Outcome::Complete;
         }
     }
     Outcome::StoredNotFinite { step: 0 }
+}
+
+fn eigen_checks(mat: [[f64; 2]; 2], e: Eigen) -> Outcome
+    ensures { λ r. ⌜ r ≡ eigen-checks mat e ⌝ }
+{
+    let entries = [mat[0][0], mat[0][1], mat[1][0], mat[1][1]];
+    checks::check_finite(2, &entries).then(check_eigen(e))
 }
 
 pub fn checked_eigenvalues_2x2(mat: [[f64; 2]; 2]) -> EigenAnswer
@@ -294,15 +283,9 @@ fn permutation_checks(idxs: &[usize], len: usize) -> Outcome
     ensures { λ r. ⌜ r ≡ permutation-checks (now (idxs .entry)) len ⌝ }
 {
     let n = idxs.len();
-    let size = checks::check_size(n);
-    if !size.complete() {
-        return size;
-    }
-    let buffer = checks::check_buffer(n * n, len);
-    if !buffer.complete() {
-        return buffer;
-    }
-    checks::check_indices(n, idxs)
+    checks::check_size(n)
+        .then(checks::check_square_buffer(n, len))
+        .then(checks::check_indices(n, idxs))
 }
 
 pub fn checked_index_to_permutation_mat(idxs: &[usize], mat: &mut [f64]) -> Outcome
@@ -330,15 +313,9 @@ fn diagonal_checks(arr: &[f64], len: usize) -> Outcome
     ensures { λ r. ⌜ r ≡ diagonal-checks (now (arr .entry)) len ⌝ }
 {
     let n = arr.len();
-    let size = checks::check_size(n);
-    if !size.complete() {
-        return size;
-    }
-    let buffer = checks::check_buffer(n * n, len);
-    if !buffer.complete() {
-        return buffer;
-    }
-    checks::check_finite(1, arr)
+    checks::check_size(n)
+        .then(checks::check_square_buffer(n, len))
+        .then(checks::check_finite(1, arr))
 }
 
 pub fn checked_diag_mat_from_arr(arr: &[f64], mat: &mut [f64]) -> Outcome

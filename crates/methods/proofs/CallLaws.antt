@@ -1,53 +1,47 @@
 -- What the operands of an accepted call are.
-use mathlib.Core.Path.{_≡_}
 use mathlib.Core.List.{List}
-use Prim.Native.Nat.{ℕ, _+_, _*_, _<_}
+use Prim.Native.Nat.{ℕ, _+_, _*_}
 use lib.Dec.{T}
 use lib.ListN.{length, getD}
 use lib.Ieee.{Float, nan, binary64, fits}
-use Rattle.arithmetic.specs.Outcome.{_then_}
 use Rattle.matrix.specs.Matrix.{Square}
-use Rattle.matrix.specs.Checks.{check-size, check-matrix, check-buffer, check-finite, check-symmetric, AllFinite}
+use Rattle.matrix.specs.Checks.{AllFinite}
 use Rattle.matrix.proofs.CheckLaws.{Accepted, both-accepted, size-accepted, matrix-accepted, buffer-accepted, entries-accepted, symmetric-accepted}
 use Rattle.methods.specs.Elimination.{Symmetric}
-use Rattle.methods.specs.Calls.{length-checks, factor-checks}
+use Rattle.methods.specs.Calls.{operand-checks, factor-checks, Operands}
 
--- n rows of n entries, and buffers of the lengths that go with them
-pub record Lengths (n : ℕ) (a : List Float) (l work e p : ℕ) : Type 0 where
-  pub some : 0 < n
-  pub square : Square n a
-  pub l-is : l ≡ n * n
-  pub work-is : work ≡ n * n
-  pub e-is : e ≡ n
-  pub p-is : p ≡ n
+-- the premises of check 8: those of 2 to 5 and of 7 passed
+module _ (method n : ℕ) (a : List Float) (l work e p : ℕ) where
+  pub square-operand : Accepted (operand-checks method n (length a) l work e p) → Square n a
+  unfolding operand-checks
+  square-operand h =
+      let m = both-accepted _ _ (both-accepted _ _ (both-accepted _ _ (both-accepted _ _ (both-accepted _ _ h .0) .0) .0) .0) in
+      let s = both-accepted _ _ (m .0) in
+      record { len = matrix-accepted n (length a) (m .1); small = size-accepted n (s .1) .1 }
 
-module _ (n : ℕ) (a : List Float) (l work e p : ℕ) where
-  pub lengths-accepted : Accepted (length-checks n a l work e p) → Lengths n a l work e p
-  unfolding length-checks
-  lengths-accepted h =
-      let s = both-accepted (check-size n) (check-matrix n (length a) then check-buffer (n * n) l then check-buffer (n * n) work then check-buffer n e then check-buffer n p) h in
-      let m = both-accepted (check-matrix n (length a)) (check-buffer (n * n) l then check-buffer (n * n) work then check-buffer n e then check-buffer n p) (s .1) in
-      let f = both-accepted (check-buffer (n * n) l) (check-buffer (n * n) work then check-buffer n e then check-buffer n p) (m .1) in
-      let w = both-accepted (check-buffer (n * n) work) (check-buffer n e then check-buffer n p) (f .1) in
-      let g = both-accepted (check-buffer n e) (check-buffer n p) (w .1) in
+  operands-accepted : Accepted (operand-checks method n (length a) l work e p) → AllFinite n a → Symmetric n a → Operands n a l work e p
+  unfolding operand-checks
+  operands-accepted h f y =
+      let q = both-accepted _ _ h in
+      let d = both-accepted _ _ (q .0) in
+      let w = both-accepted _ _ (d .0) in
+      let b = both-accepted _ _ (w .0) in
+      let m = both-accepted _ _ (b .0) in
+      let s = both-accepted _ _ (m .0) in
       record {
-        some = size-accepted n (s .0) .0;
-        square = record { len = matrix-accepted n (length a) (m .0); small = size-accepted n (s .0) .1 };
-        l-is = buffer-accepted (n * n) l (f .0);
-        work-is = buffer-accepted (n * n) work (w .0);
-        e-is = buffer-accepted n e (g .0);
-        p-is = buffer-accepted n p (g .1);
+        some = size-accepted n (s .1) .0;
+        square = square-operand h;
+        finite-entries = f;
+        symmetric = y;
+        l-is = buffer-accepted (n * n) l (b .1);
+        work-is = buffer-accepted (n * n) work (w .1);
+        e-is = buffer-accepted n e (d .1);
+        p-is = buffer-accepted n p (q .1);
       }
 
-  factor-parts : Accepted (factor-checks n a l work e p) → Accepted (length-checks n a l work e p) × Accepted (check-finite n a then check-symmetric n a)
+  pub factor-accepted : ((k : ℕ) → T (fits binary64 (getD a k nan))) → Accepted (factor-checks method n a l work e p) → Operands n a l work e p
   unfolding factor-checks
-  factor-parts h = both-accepted (length-checks n a l work e p) (check-finite n a then check-symmetric n a) h
-
-  pub factor-symmetric : ((k : ℕ) → T (fits binary64 (getD a k nan))) → Accepted (factor-checks n a l work e p) → Symmetric n a
-  factor-symmetric d h = record { same = symmetric-accepted n a (λ i j p q. d (i * n + j)) (both-accepted (check-finite n a) (check-symmetric n a) (factor-parts h .1) .1) }
-
-  pub factor-accepted : Accepted (factor-checks n a l work e p) → Lengths n a l work e p
-  factor-accepted h = lengths-accepted (factor-parts h .0)
-
-  pub factor-finite : Accepted (factor-checks n a l work e p) → AllFinite n a
-  factor-finite h = entries-accepted n a (factor-accepted h .square) (both-accepted (check-finite n a) (check-symmetric n a) (factor-parts h .1) .0)
+  factor-accepted d h =
+      let y = both-accepted _ _ h in
+      let f = both-accepted _ _ (y .0) in
+      operands-accepted (f .0) (entries-accepted n a (square-operand (f .0)) (f .1)) (record { same = symmetric-accepted n a (λ i j p q. d (i * n + j)) (y .1) })

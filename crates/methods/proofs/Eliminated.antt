@@ -10,8 +10,8 @@ use lib.Dec.{ltb, eqb}
 use borrow.Author.Tests.{lt-ltb, le-ltb, eq-eqb, ne-eqb}
 use lib.Ieee.{Float, binary64}
 use Rattle.arithmetic.specs.Double.{_⊖_, _⊗_, _⊘_}
-use Rattle.arithmetic.specs.Loop.{range-ind}
-use Rattle.arithmetic.specs.Same.{mul-commutes}
+use Rattle.arithmetic.proofs.LoopLaws.{range-ind}
+use Rattle.arithmetic.proofs.SameDoubles.{mul-commutes}
 use Rattle.arithmetic.specs.Sqrt.{sqrt}
 use Rattle.matrix.specs.Matrix.{at, put}
 use Rattle.matrix.proofs.EntryLaws.{Entries, put-entries, at-put-same, at-put-other}

@@ -8,7 +8,8 @@ use native.Mathlib.Omega.{arith}
 use lib.Ieee.{Float, ofBits}
 use lib.Ieee.Scale.{finite}
 use Rattle.arithmetic.specs.Double.{plus-zero, one}
-use Rattle.arithmetic.specs.Loop.{range, range-ind}
+use Rattle.arithmetic.specs.Loop.{range}
+use Rattle.arithmetic.proofs.LoopLaws.{range-ind}
 use Rattle.matrix.specs.Checks.{AllFinite}
 use Rattle.matrix.specs.Matrix.{at, put}
 use Rattle.matrix.proofs.EntryLaws.{Entries, same-entries}

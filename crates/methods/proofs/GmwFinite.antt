@@ -7,9 +7,9 @@ use native.Mathlib.Decide.{ℕ-discrete, decLt}
 use native.Mathlib.Omega.{arith}
 use lib.Ieee.{Float}
 use lib.Ieee.Scale.{finite}
-use Rattle.arithmetic.specs.All.{all-each}
+use Rattle.arithmetic.proofs.AllLaws.{all-each}
 use Rattle.arithmetic.specs.Loop.{range}
-use Rattle.arithmetic.specs.Order.{and-1}
+use Rattle.arithmetic.proofs.OrderLaws.{and-1}
 use Rattle.matrix.specs.Matrix.{at}
 use Rattle.methods.specs.Gmw81.{Run, start, divideRow, storedFinite, stepAt, step}
 use Rattle.methods.specs.Statements.{pivotMatrix}
@@ -40,7 +40,7 @@ divided-finite n j c d l pj F f =
 
 -- ---- until the run is refused
 abbrev pub FiniteRun : ℕ → Run → Type 0
-FiniteRun n s = s .refused ≡ Never → FiniteEntries n (s .l)
+FiniteRun n s = s .progress .refused ≡ Never → FiniteEntries n (s .l)
 
 step-finite : (n : ℕ) (delta beta : Float) (j k : ℕ) (tie : Bool) (s : Run) → j < n → j + k < n → FiniteRun n s → FiniteRun n (stepAt n delta beta j k tie s)
 step-finite n delta beta j k tie s pj pk F e =

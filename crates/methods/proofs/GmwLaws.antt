@@ -1,6 +1,6 @@
 -- The definitions of GMW81 by the loops and the branches that the code has.
 use mathlib.Core.Path.{_≡_, refl, sym, ap}
-use mathlib.Core.Bool.{Bool, true, false, not}
+use mathlib.Core.Bool.{Bool, true, false}
 use mathlib.Core.List.{List}
 use Prim.Native.Nat.{ℕ, _+_, _-_, _*_, _<_}
 use native.Mathlib.Decide.{decLt}
@@ -9,15 +9,15 @@ use borrow.Author.Tests.{lt-ltb, le-ltb}
 use lib.ListN.{getD, set}
 use lib.Ieee.{Float, nan}
 use Rattle.arithmetic.specs.Double.{plus-zero, _⊕_, _⊖_, _⊗_, _⊘_, square}
-use Rattle.arithmetic.specs.Loop.{range, range-none}
+use Rattle.arithmetic.specs.Loop.{range}
+use Rattle.arithmetic.proofs.LoopLaws.{range-none}
 use Rattle.matrix.specs.Matrix.{at, put, zeros}
-use Rattle.matrix.specs.Search.{largest}
-use Rattle.matrix.proofs.Bijection.{Is, is, holds, fails}
+use Rattle.arithmetic.proofs.Cases.{Is, is, holds, fails}
 use Rattle.methods.specs.Gmw81.{foldOffDiagonal, foldRow, offDiagonalMax, Run, start, divideRow, dot, column, thetaOf, updateDiagonal, storedFinite, stepAt, c₂Of, djOf, step, doutOf, unitLower, product, scaledFinite, finish}
-use Rattle.methods.specs.Marks.{mark, marked}
+use Rattle.methods.specs.Marks.{marked}
+use Rattle.methods.specs.Progress.{begun, searched, stored, stopped}
 use Rattle.methods.specs.Result.{identity}
-use Rattle.methods.specs.Statements.{largerMagnitude, diagonalFrom, pivotMatrix, pivotList, reorder}
-use Rattle.methods.specs.declared.decomposition.Mark.the-variants.{Never}
+use Rattle.methods.specs.Statements.{largerMagnitude, diagonal, pick, pivotMatrix, pivotList, reorder}
 
 pub row-is : (n : ℕ) (l : List Float) (i : ℕ) (acc : Float) → foldRow n l i acc ≡ range 0 n (foldOffDiagonal n l i) acc
 unfolding foldRow
@@ -60,7 +60,7 @@ diagonal-is n j dj c pj = elim (decLt j (n - 1)) [
 ]
 
 -- ---- a step, and the end
-pub started-is : (n : ℕ) (a : List Float) → start n a ≡ record { l = a; c = start n a .c; d = zeros n; e = zeros n; p = identity n; tied = Never; refused = Never }
+pub started-is : (n : ℕ) (a : List Float) → start n a ≡ record { l = a; c = start n a .c; d = zeros n; e = zeros n; p = identity n; progress = begun }
 unfolding start
 started-is n a = refl
 
@@ -76,41 +76,39 @@ pub step-at-is : (n : ℕ) (delta beta : Float) (j m : ℕ) (tie : Bool) (s : Ru
       d = set (s .d) j dj;
       e = set (s .e) j ej;
       p = pivotList 0 j m (s .p);
-      tied = mark (s .tied) tie j;
-      refused = mark (s .refused) (not (storedFinite n j l₂ c₃ dj ej)) j;
+      progress = stored (storedFinite n j l₂ c₃ dj ej) j (searched tie j (s .progress));
     })
 unfolding stepAt
 step-at-is n delta beta j m tie s = refl
 
 module _ (n : ℕ) (delta beta : Float) (j : ℕ) (s : Run) where
-  pub step-stays : marked (s .refused) ≡ true → step n delta beta j s ≡ s
+  pub step-stays : stopped (s .progress) ≡ true → step n delta beta j s ≡ s
   unfolding step
   step-stays h = rw h
 
-  pub step-goes : marked (s .refused) ≡ false → step n delta beta j s ≡ stepAt n delta beta j (largest true (diagonalFrom n (s .c) j) .index) (largest true (diagonalFrom n (s .c) j) .tied) s
+  pub step-goes : stopped (s .progress) ≡ false → step n delta beta j s ≡ stepAt n delta beta j (pick true (diagonal n (s .c)) j .index) (pick true (diagonal n (s .c)) j .tied) s
   unfolding step
   step-goes h = rw h
 
 module _ (n : ℕ) (s : Run) where
-  pub finish-stays : marked (s .refused) ≡ true → finish n s ≡ s
+  pub finish-stays : marked (s .progress .refused) ≡ true → finish n s ≡ s
   unfolding finish
   finish-stays h = rw h
 
-  pub finish-goes : marked (s .refused) ≡ false → finish n s ≡ record {
+  pub finish-goes : marked (s .progress .refused) ≡ false → finish n s ≡ record {
     l = product n (unitLower n (s .l)) (doutOf n (s .d));
     c = s .c;
     d = s .d;
     e = reorder n (s .p) (s .e);
     p = s .p;
-    tied = s .tied;
-    refused = mark (s .refused) (not (scaledFinite n (doutOf n (s .d)) (product n (unitLower n (s .l)) (doutOf n (s .d))))) n;
+    progress = stored (scaledFinite n (doutOf n (s .d)) (product n (unitLower n (s .l)) (doutOf n (s .d)))) n (s .progress);
   }
   unfolding finish
   finish-goes h = rw h
 
   pub finish-order : finish n s .p ≡ s .p
-  finish-order = go (is (marked (s .refused)))
+  finish-order = go (is (marked (s .progress .refused)))
     where
-      go : Is (marked (s .refused)) → finish n s .p ≡ s .p
+      go : Is (marked (s .progress .refused)) → finish n s .p ≡ s .p
       go (holds h) = ap (λ (t : Run). t .p) (finish-stays h)
       go (fails h) = ap (λ (t : Run). t .p) (finish-goes h)

@@ -6,32 +6,40 @@ use Prim.Native.Nat.{ℕ, suc, _+_, _<_}
 use native.Mathlib.Omega.{arith}
 use lib.Ieee.{Float}
 use Rattle.arithmetic.specs.Double.{_⊖_}
-use Rattle.arithmetic.specs.Loop.{range, range-ind}
+use Rattle.arithmetic.specs.Loop.{range}
+use Rattle.arithmetic.proofs.LoopLaws.{range-ind}
 use Rattle.matrix.specs.Matrix.{at}
-use Rattle.matrix.proofs.Bijection.{Is, is, holds, fails}
+use Rattle.arithmetic.proofs.Cases.{Is, is, holds, fails}
 use Rattle.methods.specs.Marks.{marked}
-use Rattle.methods.specs.Statements.{diagonalMax, pivotMatrix}
-use Rattle.methods.specs.Gmw81.{Run, start, divideRow, updateDiagonal, c₂Of, djOf, storedFinite, stepAt, step, finish, run, offDiagonalMax, deltaOf, betaOf}
+use Rattle.methods.specs.Progress.{stopped}
+use Rattle.methods.specs.Statements.{pivotMatrix}
+use Rattle.methods.specs.Gmw81.{Run, start, divideRow, updateDiagonal, c₂Of, djOf, storedFinite, stepAt, step, finish, run, stepped}
 use Rattle.methods.specs.declared.decomposition.Mark.the-variants.{Never}
 use Rattle.methods.proofs.GmwLaws.{started-is, step-at-is, step-stays, step-goes, finish-stays}
-use Rattle.methods.proofs.Pivots.{pick-below, Permuted, identity-permuted, pivot-permuted}
+use Rattle.methods.proofs.Pivots.{diagonal-below, Permuted, identity-permuted, pivot-permuted}
 use Rattle.methods.proofs.Refused.{NotRefused, goes-on, unmarked-never}
 
 -- ---- P j holds before step j: of a run that the step changes, and of a refused one
 pub record KeptBySteps (n : ℕ) (delta beta : Float) (P : ℕ → Run → Type 0) : Type 0 where
   pub by-step : (j k : ℕ) (tie : Bool) (s : Run) → j < n → j + k < n → P j s → P (suc j) (stepAt n delta beta j k tie s)
-  pub refused : (j : ℕ) (s : Run) → marked (s .refused) ≡ true → P j s → P (suc j) s
+  pub refused : (j : ℕ) (s : Run) → marked (s .progress .refused) ≡ true → P j s → P (suc j) s
 
 module _ (n : ℕ) (delta beta : Float) (P : ℕ → Run → Type 0) (K : KeptBySteps n delta beta P) where
-  step-keeps : (j : ℕ) (s : Run) → j < n → P j s → P (suc j) (step n delta beta j s)
-  step-keeps j s pj b = go (is (marked (s .refused)))
+  -- GMW81 has no phase two, so a run that stopped was refused
+  record Kept (j : ℕ) (s : Run) : Type 0 where
+    one-phase : s .progress .phase2 ≡ Never
+    kept : P j s
+
+  step-keeps : (j : ℕ) (s : Run) → j < n → Kept j s → Kept (suc j) (step n delta beta j s)
+  step-keeps j s pj b = go (is (stopped (s .progress)))
     where
-      go : Is (marked (s .refused)) → P (suc j) (step n delta beta j s)
-      go (holds h) = rw (step-stays n delta beta j s h) (K .refused j s h b)
-      go (fails h) = rw (step-goes n delta beta j s h) (K .by-step j _ _ s pj (pick-below true n j (s .c) pj) b)
+      go : Is (stopped (s .progress)) → Kept (suc j) (step n delta beta j s)
+      go (holds h) = rw (step-stays n delta beta j s h) (record { one-phase = b .one-phase; kept = K .refused j s (rw (b .one-phase) at h) (b .kept) })
+      go (fails h) = rw (step-goes n delta beta j s h) (record { one-phase = rw step-at-is (b .one-phase); kept = K .by-step j _ _ s pj (diagonal-below true n j (s .c) pj) (b .kept) })
 
   pub steps-keep : (a : List Float) → P 0 (start n a) → P n (range 0 n (step n delta beta) (start n a))
-  steps-keep a b = range-ind P 0 n (step n delta beta) (start n a) (omega arith) b (λ j p q s h. step-keeps j s q h)
+  steps-keep a b =
+      range-ind Kept 0 n (step n delta beta) (start n a) (omega arith) (record { one-phase = rw started-is refl; kept = b }) (λ j p q s h. step-keeps j s q h) .kept
 
 -- p is a permutation throughout
 permuted-kept : (n : ℕ) (delta beta : Float) → KeptBySteps n delta beta (λ j s. Permuted n (s .p))
@@ -56,20 +64,17 @@ stepE n delta beta j k s = stepD n delta beta j k s ⊖ at n (c₃Of n delta bet
 abbrev pub stepTest : ℕ → Float → Float → ℕ → ℕ → Run → Bool
 stepTest n delta beta j k s = storedFinite n j (l₂Of n j k s) (c₃Of n delta beta j k s) (stepD n delta beta j k s) (stepE n delta beta j k s)
 
-pub step-never : (n : ℕ) (delta beta : Float) (j k : ℕ) (tie : Bool) (s : Run) → stepAt n delta beta j k tie s .refused ≡ Never → NotRefused (s .refused) (stepTest n delta beta j k s)
-step-never n delta beta j k tie s e = goes-on (s .refused) (stepTest n delta beta j k s) j (rw step-at-is at e)
+pub step-never : (n : ℕ) (delta beta : Float) (j k : ℕ) (tie : Bool) (s : Run) → stepAt n delta beta j k tie s .progress .refused ≡ Never → NotRefused (s .progress .refused) (stepTest n delta beta j k s)
+step-never n delta beta j k tie s e = goes-on (s .progress .refused) (stepTest n delta beta j k s) j (rw step-at-is at e)
 
 -- ---- the steps of a run, and its end
-abbrev pub stepped : ℕ → List Float → Run
-stepped n a = range 0 n (step n (deltaOf (diagonalMax n a) (offDiagonalMax n a)) (betaOf n (diagonalMax n a) (offDiagonalMax n a))) (start n a)
-
 pub run-is : (n : ℕ) (a : List Float) → run n a ≡ finish n (stepped n a)
 unfolding run
 run-is n a = refl
 
-pub finish-never : (n : ℕ) (s : Run) → finish n s .refused ≡ Never → s .refused ≡ Never
-finish-never n s = go (is (marked (s .refused)))
+pub finish-never : (n : ℕ) (s : Run) → finish n s .progress .refused ≡ Never → s .progress .refused ≡ Never
+finish-never n s = go (is (marked (s .progress .refused)))
   where
-    go : Is (marked (s .refused)) → finish n s .refused ≡ Never → s .refused ≡ Never
+    go : Is (marked (s .progress .refused)) → finish n s .progress .refused ≡ Never → s .progress .refused ≡ Never
     go (holds h) e = rw (finish-stays n s h) at e
-    go (fails h) e = unmarked-never (s .refused) h
+    go (fails h) e = unmarked-never (s .progress .refused) h

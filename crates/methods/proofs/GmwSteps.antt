@@ -7,13 +7,15 @@ use native.Mathlib.Omega.{arith}
 use lib.ListN.{getD, length-replicate, getD-replicate}
 use lib.Ieee.{Float, nan}
 use Rattle.arithmetic.specs.Double.{plus-zero, _⊕_, _⊖_, _⊗_, _⊘_, square}
-use Rattle.arithmetic.specs.Loop.{range, range2-ind}
-use Rattle.matrix.specs.Matrix.{at, zeros, cell-lt}
+use Rattle.arithmetic.specs.Loop.{range}
+use Rattle.arithmetic.proofs.LoopLaws.{range2-ind}
+use Rattle.arithmetic.proofs.Folds.{Double}
+use Rattle.matrix.specs.Matrix.{at, zeros}
+use Rattle.matrix.proofs.CellLaws.{cell-lt}
 use Rattle.matrix.proofs.EntryLaws.{Entries}
 use Rattle.matrix.proofs.Bijection.{Bijection, Fixes, bijection-from, stays-above, stays-after, injective}
 use Rattle.methods.specs.Gmw81.{divideRow, dot, column, thetaOf, updateDiagonal, start}
 use Rattle.methods.specs.Elimination.{Rest, Stored}
-use Rattle.methods.proofs.Tests.{Double}
 use Rattle.methods.proofs.Magnitudes.{largestMagnitude-along}
 use Rattle.methods.proofs.Moved.{Moved}
 use Rattle.methods.proofs.Stored.{stored}

@@ -5,9 +5,13 @@ pub mod Eliminated
 pub mod Mirrored
 pub mod LastBlock
 pub mod SwappedBelow
+pub mod Sums
 pub mod Rows
 pub mod PhaseOne
 pub mod Reordered
+pub mod LoadOrders
+pub mod Loaded
+pub mod MarkLaws
 pub mod Stored
 pub mod GmwSteps
 pub mod Nearest
@@ -15,8 +19,6 @@ pub mod Ties
 pub mod StatementLaws
 pub mod CallLaws
 pub mod Pivots
-pub mod Zeros
-pub mod OneTerm
 pub mod Refused
 pub mod FiniteEntries
 pub mod Scaled
@@ -25,4 +27,5 @@ pub mod GmwRuns
 pub mod GmwFinite
 pub mod Answers
 pub mod SeLaws
+pub mod Stopped
 pub mod SeRuns

@@ -9,15 +9,18 @@ use native.Mathlib.Omega.{arith}
 use borrow.Author.Tests.{eq-eqb, ne-eqb}
 use lib.Ieee.{Float, binary64, lt, isNan, fits, ofBits}
 use Rattle.arithmetic.specs.Double.{abs, plus-zero}
-use Rattle.arithmetic.specs.Loop.{range, range-ind}
-use Rattle.arithmetic.specs.Order.{lt-irreflexive, lt-transitive, lt-total}
-use Rattle.arithmetic.specs.Same.{signOf, same-double}
-use Rattle.arithmetic.specs.Sign.{abs-sign, abs-number, abs-fits, not-negative, plus-zero-sign}
+use Rattle.arithmetic.specs.Loop.{range}
+use Rattle.arithmetic.proofs.LoopLaws.{range-ind}
+use Rattle.arithmetic.proofs.OrderLaws.{lt-irreflexive, lt-transitive, lt-total}
+use Rattle.arithmetic.specs.Sign.{signOf}
+use Rattle.arithmetic.proofs.SameDoubles.{same-double}
+use Rattle.arithmetic.proofs.SignLaws.{abs-sign, abs-number, abs-fits, not-negative, plus-zero-sign}
+use Rattle.arithmetic.proofs.Folds.{Double}
 use Rattle.matrix.specs.Matrix.{at}
-use Rattle.matrix.proofs.Bijection.{Is, is, holds, fails, not-holds, Bijection, inverse, Along, injective}
+use Rattle.arithmetic.proofs.Cases.{Is, is, holds, fails, not-holds}
+use Rattle.matrix.proofs.Bijection.{Bijection, inverse, Along, injective}
 use Rattle.methods.specs.Statements.{largerMagnitude, foldDiagonal, diagonalMax}
 use Rattle.methods.specs.Gmw81.{foldOffDiagonal, foldRow, offDiagonalMax}
-use Rattle.methods.proofs.Tests.{Double}
 
 zero-double : Double plus-zero
 unfolding isNan fits ofBits

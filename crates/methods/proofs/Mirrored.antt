@@ -2,7 +2,7 @@
 use mathlib.Core.Path.{_≡_, refl, sym, ap, _∙_}
 use mathlib.Core.List.{List}
 use mathlib.Core.Bool.{true, false, cond}
-use Prim.Native.Nat.{ℕ, _+_, _-_, _*_, _/_, _%_, _≤_, _<_}
+use Prim.Native.Nat.{ℕ, _+_, _*_, _/_, _%_, _≤_, _<_}
 use native.Mathlib.Decide.{ℕ-discrete, decLt}
 use native.Mathlib.Omega.{arith}
 use borrow.Author.Tests.{le-leb, lt-leb}
@@ -12,14 +12,17 @@ use lib.Seq.{ext-getD}
 use lib.Dec.{leb}
 use lib.Ieee.{Float, nan, inf, lt}
 use Rattle.arithmetic.specs.Double.{plus-zero, one, _⊕_, _⊖_, _⊗_, _⊘_, abs}
-use Rattle.arithmetic.specs.Loop.{range, range2-ind}
-use Rattle.matrix.specs.Matrix.{at, put, cell-lt}
-use Rattle.matrix.specs.Table.{table, length-table, getD-table}
+use Rattle.arithmetic.specs.Loop.{range}
+use Rattle.arithmetic.proofs.LoopLaws.{range2-ind}
+use Rattle.matrix.specs.Matrix.{at, put}
+use Rattle.matrix.proofs.CellLaws.{cell-lt}
+use Rattle.matrix.specs.Table.{table}
+use Rattle.matrix.proofs.TableLaws.{length-table, getD-table}
 use Rattle.matrix.proofs.EntryLaws.{Entries, put-entries, at-put-same, at-put-other, same-entries}
-use Rattle.methods.specs.Statements.{diagonalFrom, lowerTriangle}
+use Rattle.methods.specs.Statements.{diagonal, lowerTriangle}
 use Rattle.methods.specs.Elimination.{Symmetric, mirrored}
-use Rattle.methods.specs.Se.{Run, state, lowered, foldNext, tmpOf, aiiMax, aiiMin, leavesBefore, rowSum, columnSum, bounds, updateBounds}
-use Rattle.methods.specs.declared.schnabel_eskow.Progress.{Progress}
+use Rattle.methods.specs.Se.{Run, state, lowered, foldNext, tmpOf, aiiMax, aiiMin, leavesBefore, leavesAfter, magnitudeSum, rowSum, columnSum, bounds, updateBounds}
+use Rattle.methods.specs.declared.progress.Progress.{Progress}
 use Rattle.methods.specs.declared.schnabel_eskow.Tolerances.{Tolerances}
 use Rattle.methods.specs.declared.schnabel_eskow.Variant.{Variant}
 use Rattle.methods.specs.declared.schnabel_eskow.Variant.the-variants.{Se90, Se99}
@@ -103,50 +106,55 @@ module _ (n i : ℕ) (m : List Float) (v : Float) (p : i < n) (h : Entries n m) 
 
 -- ---- what is read, on and below the diagonal, is the same
 module _ (n : ℕ) (m : List Float) where
-  diagonal : (i : ℕ) → i < n → at n (mirrored n m) i i ≡ at n m i i
-  diagonal i p = mirrored-lower n m i i p (omega arith)
+  on-diagonal : (i : ℕ) → i < n → at n (mirrored n m) i i ≡ at n m i i
+  on-diagonal i p = mirrored-lower n m i i p (omega arith)
 
   -- a loop whose body reads the matrix
   loop-mirrored : {S : Type 0} (a b : ℕ) (body : List Float → ℕ → S → S) (s : S) → a ≤ b → ((i : ℕ) → a ≤ i → i < b → (t : S) → body (mirrored n m) i t ≡ body m i t)
       → range a b (body (mirrored n m)) s ≡ range a b (body m) s
   loop-mirrored a b body s h e = range2-ind (λ i t u. t ≡ u) a b (body (mirrored n m)) (body m) s s h refl (λ i p q t u k. ap (body (mirrored n m) i) k ∙ e i p q u)
 
-  pub diagonalFrom-mirrored : (j : ℕ) → diagonalFrom n (mirrored n m) j ≡ diagonalFrom n m j
-  unfolding diagonalFrom
-  diagonalFrom-mirrored j = table-same (n - j) (λ i. at n (mirrored n m) (j + i) (j + i)) (λ i. at n m (j + i) (j + i)) (λ i p. diagonal (j + i) (omega arith))
+  pub diagonal-mirrored : diagonal n (mirrored n m) ≡ diagonal n m
+  unfolding diagonal
+  diagonal-mirrored = table-same n (λ i. at n (mirrored n m) i i) (λ i. at n m i i) on-diagonal
 
   foldNext-mirrored : (j i : ℕ) (acc : Float) → j < i → i < n → foldNext n j (mirrored n m) i acc ≡ foldNext n j m i acc
   unfolding foldNext
-  foldNext-mirrored j i acc p q = rw (diagonal i q, diagonal j (omega arith), mirrored-lower n m i j q (omega arith))
+  foldNext-mirrored j i acc p q = rw (on-diagonal i q, on-diagonal j (omega arith), mirrored-lower n m i j q (omega arith))
 
-  pub tmpOf-mirrored : (j : ℕ) → j < n → tmpOf n j (mirrored n m) ≡ tmpOf n j m
+  tmpOf-mirrored : (j : ℕ) → j < n → tmpOf n j (mirrored n m) ≡ tmpOf n j m
   unfolding tmpOf
   tmpOf-mirrored j p = loop-mirrored (j + 1) n (foldNext n j) (inf false) (omega arith) (λ i u w t. foldNext-mirrored j i t (omega arith) w)
 
   aiiMax-mirrored : (j : ℕ) → j < n → aiiMax n j (mirrored n m) ≡ aiiMax n j m
   unfolding aiiMax
-  aiiMax-mirrored j p = loop-mirrored j n (λ l i acc. cond (lt acc (at n l i i)) (at n l i i) acc) (inf true) (omega arith) (λ i u w t. rw (diagonal i w))
+  aiiMax-mirrored j p = loop-mirrored j n (λ l i acc. cond (lt acc (at n l i i)) (at n l i i) acc) (inf true) (omega arith) (λ i u w t. rw (on-diagonal i w))
 
   aiiMin-mirrored : (j : ℕ) → j < n → aiiMin n j (mirrored n m) ≡ aiiMin n j m
   unfolding aiiMin
-  aiiMin-mirrored j p = loop-mirrored j n (λ l i acc. cond (lt (at n l i i) acc) (at n l i i) acc) (inf false) (omega arith) (λ i u w t. rw (diagonal i w))
+  aiiMin-mirrored j p = loop-mirrored j n (λ l i acc. cond (lt (at n l i i) acc) (at n l i i) acc) (inf false) (omega arith) (λ i u w t. rw (on-diagonal i w))
 
   pub leavesBefore-mirrored : (v : Variant) (t : Tolerances) (gamma : Float) (j : ℕ) → j < n → leavesBefore v t gamma n j (mirrored n m) ≡ leavesBefore v t gamma n j m
   unfolding leavesBefore
   leavesBefore-mirrored Se90 t gamma j p = refl
   leavesBefore-mirrored Se99 t gamma j p = rw (aiiMax-mirrored j p, aiiMin-mirrored j p)
 
+  pub leavesAfter-mirrored : (v : Variant) (t : Tolerances) (gamma : Float) (j : ℕ) → j < n → leavesAfter v t gamma n j (mirrored n m) ≡ leavesAfter v t gamma n j m
+  unfolding leavesAfter
+  leavesAfter-mirrored Se90 t gamma j p = rw (tmpOf-mirrored j p)
+  leavesAfter-mirrored Se99 t gamma j p = rw (tmpOf-mirrored j p)
+
   rowSum-mirrored : (i a : ℕ) → i < n → a ≤ i → rowSum n (mirrored n m) i a i ≡ rowSum n m i a i
-  unfolding rowSum
+  unfolding rowSum magnitudeSum
   rowSum-mirrored i a p q = loop-mirrored a i (λ l t sum. sum ⊕ abs (at n l i t)) plus-zero q (λ t u w s. rw (mirrored-lower n m i t p (omega arith)))
 
   pub columnSum-mirrored : (i : ℕ) → i < n → columnSum n (mirrored n m) i (i + 1) n ≡ columnSum n m i (i + 1) n
-  unfolding columnSum
+  unfolding columnSum magnitudeSum
   columnSum-mirrored i p = loop-mirrored (i + 1) n (λ l t sum. sum ⊕ abs (at n l t i)) plus-zero (omega arith) (λ t u w s. rw (mirrored-lower n m t i w (omega arith)))
 
   pub bounds-mirrored : (k : ℕ) (g : List Float) → k ≤ n → bounds n k (mirrored n m) g ≡ bounds n k m g
   unfolding bounds
-  bounds-mirrored k g p = loop-mirrored k n (λ l i h. set h i (at n l i i ⊖ rowSum n l i k i ⊖ columnSum n l i (i + 1) n)) g p (λ i u w h. rw (diagonal i w, rowSum-mirrored i k w u, columnSum-mirrored i w))
+  bounds-mirrored k g p = loop-mirrored k n (λ l i h. set h i (at n l i i ⊖ rowSum n l i k i ⊖ columnSum n l i (i + 1) n)) g p (λ i u w h. rw (on-diagonal i w, rowSum-mirrored i k w u, columnSum-mirrored i w))
 
   abbrev addToBounds : ℕ → Float → List Float → ℕ → List Float → List Float
   addToBounds j normj l i h = set h i (getD h i nan ⊕ abs (at n l i j) ⊗ (one ⊖ normj ⊘ at n l j j))
@@ -155,5 +163,5 @@ module _ (n : ℕ) (m : List Float) where
   unfolding updateBounds
   updateBounds-mirrored j normj g p =
       let e : range (j + 1) n (addToBounds j normj (mirrored n m)) g ≡ range (j + 1) n (addToBounds j normj m) g =
-      loop-mirrored (j + 1) n (addToBounds j normj) g (omega arith) (λ i u w h. rw (mirrored-lower n m i j w (omega arith), diagonal j p)) in
-      rw (e, diagonal j p)
+      loop-mirrored (j + 1) n (addToBounds j normj) g (omega arith) (λ i u w h. rw (mirrored-lower n m i j w (omega arith), on-diagonal j p)) in
+      rw (e, on-diagonal j p)

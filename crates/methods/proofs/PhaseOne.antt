@@ -8,13 +8,14 @@ use lib.Dec.{T}
 use lib.Ieee.{Float, binary64, lt, neg, fits}
 use lib.Ieee.Scale.{finite}
 use Rattle.arithmetic.specs.Double.{_⊖_, _⊗_, _⊘_, square}
+use Rattle.arithmetic.proofs.Folds.{smallest, greatest}
 use Rattle.matrix.specs.Matrix.{at}
 use Rattle.matrix.proofs.Bijection.{Bijection, Fixes, bijection-from, Along}
 use Rattle.methods.specs.Se.{foldNext, tmpOf, aiiMax, aiiMin, leavesBefore, leavesAfter}
 use Rattle.methods.specs.declared.schnabel_eskow.Tolerances.{Tolerances}
 use Rattle.methods.specs.declared.schnabel_eskow.Variant.{Variant}
 use Rattle.methods.specs.declared.schnabel_eskow.Variant.the-variants.{Se90, Se99}
-use Rattle.methods.proofs.Tests.{smallest-along, greatest-below, greatest-limit, smallest, greatest}
+use Rattle.methods.proofs.Tests.{smallest-along, greatest-below, greatest-limit}
 use Rattle.methods.proofs.Moved.{Moved}
 use Rattle.methods.proofs.Eliminated.{moved-corner, moved-column}
 
@@ -29,7 +30,7 @@ tmp-along n j σ τ A B x pj P f M s = smallest-along (j + 1) n σ τ (next A) (
     next l i = at n l i i ⊖ square (at n l i j) ⊘ at n l j j
 
 pub leavesAfter-along : (v : Variant) (t : Tolerances) (gamma : Float) (n j : ℕ) (σ τ : ℕ → ℕ) (A B : List Float) → j < n → Bijection 0 n σ τ → Fixes n (j + 1) σ → Moved n σ A B
-    → ((x y : ℕ) → x < n → y < n → at n A x y ≡ at n A y x) → leavesAfter v t gamma (tmpOf n j A) ≡ leavesAfter v t gamma (tmpOf n j B)
+    → ((x y : ℕ) → x < n → y < n → at n A x y ≡ at n A y x) → leavesAfter v t gamma n j A ≡ leavesAfter v t gamma n j B
 unfolding leavesAfter
 leavesAfter-along Se90 t gamma n j σ τ A B pj P f M s = tmp-along n j σ τ A B (t .tau ⊗ gamma) pj P f M s
 leavesAfter-along Se99 t gamma n j σ τ A B pj P f M s = tmp-along n j σ τ A B (neg (t .mu) ⊗ gamma) pj P f M s

@@ -1,33 +1,45 @@
 -- The pivot that a search finds is a row, and pivots keep p a permutation of the rows.
-use mathlib.Core.Path.{_≡_, ap, _∙_}
+use mathlib.Core.Path.{_≡_, sym, ap, _∙_}
 use mathlib.Core.Bool.{Bool}
 use mathlib.Core.List.{List}
-use Prim.Native.Nat.{ℕ, _+_, _-_, _<_}
+use Prim.Native.Nat.{ℕ, _+_, _≤_, _<_}
 use native.Mathlib.Omega.{arith}
-use lib.ListN.{length, getD}
-use lib.Ieee.{Float}
+use lib.ListN.{length, getD, drop, length-drop}
+use lib.Seq.{getD-drop, ext-getD}
+use lib.Ieee.{Float, nan}
 use Rattle.matrix.specs.Matrix.{at}
 use Rattle.matrix.specs.Plain.{AllBelow}
+use Rattle.matrix.specs.Table.{table}
+use Rattle.matrix.proofs.TableLaws.{length-table, getD-table}
 use Rattle.matrix.specs.Search.{largest}
-use Rattle.matrix.specs.Table.{table, length-table, getD-table}
 use Rattle.matrix.specs.declared.utils.Found.{Found}
 use Rattle.matrix.proofs.SearchLaws.{largest-top}
 use Rattle.matrix.proofs.SwapLaws.{transpose, transpose-lt, transpose-twice}
 use Rattle.methods.specs.Result.{identity}
-use Rattle.methods.specs.Statements.{diagonalFrom, pivotList}
+use Rattle.methods.specs.Statements.{diagonal, pick, pivotList}
 use Rattle.methods.proofs.Moved.{length-pivot, getD-pivot}
 use Rattle.methods.proofs.Reordered.{Order}
 
-pub length-diagonal : (n j : ℕ) (m : List Float) → length (diagonalFrom n m j) ≡ n - j
-unfolding diagonalFrom
-length-diagonal n j m = length-table (n - j) (λ i. at n m (j + i) (j + i))
+pub length-diagonal : (n : ℕ) (m : List Float) → length (diagonal n m) ≡ n
+unfolding diagonal
+length-diagonal n m = length-table n (λ i. at n m i i)
 
-pub pick-below : (magnitude : Bool) (n j : ℕ) (m : List Float) → j < n → j + largest magnitude (diagonalFrom n m j) .index < n
-pick-below magnitude n j m pj = omega (arith, length-diagonal n j m, largest-top magnitude (diagonalFrom n m j) (omega (arith, length-diagonal n j m)) .below)
+pub pick-below : (magnitude : Bool) (values : List Float) (n j : ℕ) → length values ≡ n → j < n → j + pick magnitude values j .index < n
+unfolding pick
+pick-below magnitude values n j e h = omega (arith, length-drop j values, largest-top magnitude (drop j values) (omega (arith, length-drop j values)) .below)
+
+pub diagonal-below : (magnitude : Bool) (n j : ℕ) (m : List Float) → j < n → j + pick magnitude (diagonal n m) j .index < n
+diagonal-below magnitude n j m h = pick-below magnitude (diagonal n m) n j (length-diagonal n m) h
 
 -- .. as code finds it
-pub diagonal-pick : (magnitude : Bool) (n j : ℕ) (m : List Float) (f : Found) → f ≡ largest magnitude (diagonalFrom n m j) → j < n → j + f .index < n
-diagonal-pick magnitude n j m f e h = rw e (pick-below magnitude n j m h)
+pub picked-below : (magnitude : Bool) (values : List Float) (n j : ℕ) (f : Found) → f ≡ pick magnitude values j → length values ≡ n → j < n → j + f .index < n
+picked-below magnitude values n j f e k h = rw e (pick-below magnitude values n j k h)
+
+-- the values before j are not looked at
+pub pick-same : (magnitude : Bool) (x y : List Float) (j : ℕ) → length x ≡ length y → ((i : ℕ) → j ≤ i → i < length x → getD x i nan ≡ getD y i nan) → pick magnitude x j ≡ pick magnitude y j
+unfolding pick
+pick-same magnitude x y j e h = ap (largest magnitude) (ext-getD nan (drop j x) (drop j y) (simp length-drop (omega arith))
+    (λ k p. getD-drop j x k nan ∙ h (j + k) (omega arith) (omega (arith, length-drop j x)) ∙ sym (getD-drop j y k nan)))
 
 -- ---- p lists 0 to n - 1, each once
 pub record Permuted (n : ℕ) (p : List ℕ) : Type 0 where

@@ -7,7 +7,7 @@ use native.Mathlib.Omega.{arith}
 use lib.ListN.{length, getD, set, length-set}
 use lib.Seq.{getD-set-same, getD-set-other}
 use lib.Ieee.{Float, nan}
-use Rattle.arithmetic.specs.Loop.{range-ind}
+use Rattle.arithmetic.proofs.LoopLaws.{range-ind}
 use Rattle.matrix.proofs.Bijection.{Bijection}
 use Rattle.methods.specs.Statements.{reorder}
 

@@ -9,14 +9,15 @@ use native.Mathlib.Omega.{arith}
 use lib.ListN.{getD, set}
 use lib.Ieee.{Float, nan}
 use lib.Ieee.Scale.{finite}
-use Rattle.arithmetic.specs.All.{all, andTest, all-each, all-true}
+use Rattle.arithmetic.specs.All.{all}
+use Rattle.arithmetic.proofs.AllLaws.{andTest, all-each, all-true}
 use Rattle.arithmetic.specs.Double.{_⊖_, _⊗_, _⊘_}
-use Rattle.arithmetic.specs.Loop.{range-none, range-more}
-use Rattle.arithmetic.specs.Order.{and-1, and-2}
+use Rattle.arithmetic.proofs.LoopLaws.{range-none, range-more}
+use Rattle.arithmetic.proofs.OrderLaws.{and-1, and-2}
 use Rattle.arithmetic.specs.Sqrt.{sqrt}
 use Rattle.matrix.specs.Matrix.{at, put}
 use Rattle.matrix.proofs.EntryLaws.{Entries, at-put-same, at-put-other}
-use Rattle.matrix.proofs.Bijection.{same-tests}
+use Rattle.arithmetic.proofs.Cases.{same-tests}
 use Rattle.methods.specs.Statements.{blockFinite, eliminate}
 use Rattle.methods.specs.Elimination.{mirrored, CellsWritten, RowWritten, ColumnWritten, RowsEliminated, subtracted}
 use Rattle.methods.proofs.Tests.{all-same}

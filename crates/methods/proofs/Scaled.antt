@@ -13,20 +13,24 @@ use lib.Dec.{eqb}
 use lib.Ieee.{Float, nan, binary64}
 use lib.Ieee.Fits.{mul-fits}
 use lib.Ieee.Scale.{finite}
-use Rattle.arithmetic.specs.All.{all, all-each, all-true}
+use Rattle.arithmetic.specs.All.{all}
+use Rattle.arithmetic.proofs.AllLaws.{all-each, all-true}
 use Rattle.arithmetic.specs.Double.{plus-zero, _⊕_, _⊗_}
-use Rattle.arithmetic.specs.Loop.{range, range-ind}
+use Rattle.arithmetic.specs.Loop.{range}
+use Rattle.arithmetic.proofs.LoopLaws.{range-ind}
 use Rattle.arithmetic.specs.Sqrt.{sqrt}
+use Rattle.arithmetic.proofs.Zeros.{times-zero}
+use Rattle.arithmetic.proofs.OneTerm.{one-term}
 use Rattle.matrix.specs.Checks.{AllFinite}
-use Rattle.matrix.specs.Matrix.{at, put, cell-lt}
-use Rattle.matrix.specs.Table.{table, length-table, getD-table}
-use Rattle.matrix.proofs.Bijection.{same-tests}
+use Rattle.matrix.specs.Matrix.{at, put}
+use Rattle.matrix.proofs.CellLaws.{cell-lt}
+use Rattle.matrix.specs.Table.{table}
+use Rattle.matrix.proofs.TableLaws.{length-table, getD-table}
+use Rattle.arithmetic.proofs.Cases.{same-tests}
 use Rattle.matrix.proofs.EntryLaws.{Entries, same-entries}
 use Rattle.methods.specs.Gmw81.{doutOf, product, scaledFinite}
 use Rattle.methods.specs.Elimination.{Stored}
 use Rattle.methods.proofs.Stored.{stored}
-use Rattle.methods.proofs.Zeros.{times-zero}
-use Rattle.methods.proofs.OneTerm.{one-term}
 use Rattle.methods.proofs.FiniteEntries.{zero-finite}
 
 -- ---- the product

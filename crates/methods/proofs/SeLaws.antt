@@ -1,23 +1,20 @@
 -- What the code of SE90 and SE99 leaves in its variables, each value named.
 use mathlib.Core.Path.{_≡_, refl, ap, _∙_}
-use mathlib.Core.Bool.{Bool, true, false, cond, _&&_, _||_}
+use mathlib.Core.Bool.{Bool, true, false, cond, _&&_}
 use mathlib.Core.List.{List}
-use Prim.Native.Nat.{ℕ, _+_, _-_, _≤_, _<_}
+use Prim.Native.Nat.{ℕ, _-_, _≤_, _<_}
 use native.Mathlib.Omega.{arith}
-use lib.ListN.{length, drop, take, length-drop}
-use lib.Seq.{take-all}
+use lib.ListN.{length}
 use lib.Dec.{eqb}
 use lib.Ieee.{Float, inf, ofBits, div, neg}
 use Rattle.arithmetic.specs.Double.{plus-zero, one, _⊘_}
 use Rattle.arithmetic.specs.Loop.{range}
 use Rattle.matrix.specs.Matrix.{Square, at, put}
-use Rattle.matrix.specs.Search.{largest}
-use Rattle.matrix.specs.declared.utils.Found.{Found}
 use Rattle.matrix.proofs.EntryLaws.{put-entries, at-put-same}
-use Rattle.matrix.proofs.SearchLaws.{largest-top}
 use Rattle.methods.specs.Marks.{mark, marked}
-use Rattle.methods.specs.Statements.{diagonalFrom, diagonalMax, pivotMatrix}
-use Rattle.methods.specs.Se.{Run, start, tmpOf, leavesBefore, leavesAfter, leave, pivot, factorize, stepAt, phaseOneStep, inPhaseOne, phaseOne, phaseTwoStepAt, phaseTwoStep, pairOf, oneOf, addLast, rowsOf, lastPair, lastOne, begin, pairs, phaseTwoFrom, phaseTwoAfter, phaseTwo, run}
+use Rattle.methods.specs.Progress.{stopped}
+use Rattle.methods.specs.Statements.{diagonal, diagonalMax, pick, pivotMatrix}
+use Rattle.methods.specs.Se.{Run, start, leavesBefore, leavesAfter, leave, pivot, factorize, stepAt, phaseOneStep, inPhaseOne, phaseOne, phaseTwoStepAt, phaseTwoStep, pairOf, oneOf, addLast, rowsOf, lastPair, lastOne, begin, pairs, phaseTwoFrom, phaseTwoAfter, phaseTwo, run}
 use Rattle.methods.specs.declared.decomposition.Mark.{Mark}
 use Rattle.methods.specs.declared.decomposition.Mark.the-variants.{Never, Step}
 use Rattle.methods.specs.declared.schnabel_eskow.Tolerances.{Tolerances}
@@ -58,28 +55,21 @@ square-put {n} {m} i j v e s = record { len = ap length e ∙ put-entries n m i 
 pub at-stored : {n : ℕ} {m m' : List Float} (i j : ℕ) (v : Float) → m' ≡ put n m i j v → Square n m → i < n → j < n → at n m' i j ≡ v
 at-stored {n} {m} i j v e s p q = rw e (at-put-same n m i j v (s .len) p q)
 
--- ---- the pivot is a position from j on
-pub part-is : (j n : ℕ) (g : List Float) → length g ≡ n → take (length g - j) (drop j g) ≡ drop j g
-part-is j n g e = take-all (length g - j) (drop j g) (omega (arith, length-drop j g))
-
-pub bounds-pick : (n j : ℕ) (g : List Float) (f : Found) → f ≡ largest false (drop j g) → length g ≡ n → j < n → j + f .index < n
-bounds-pick n j g f e k h = rw e (omega (arith, length-drop j g, largest-top false (drop j g) (omega (arith, length-drop j g)) .below))
-
 -- ---- the run's definitions, one level open
 module _ (v : Variant) (t : Tolerances) (gamma : Float) (n : ℕ) where
   pub stepAt-is : (j k : ℕ) (tie : Bool) (s : Run)
-      → stepAt v t gamma n j k tie s ≡ cond (leavesAfter v t gamma (tmpOf n j (pivotMatrix n j k (s .l)))) (leave j (pivot n j k tie s)) (factorize n j (pivot n j k tie s))
+      → stepAt v t gamma n j k tie s ≡ cond (leavesAfter v t gamma n j (pivotMatrix n j k (s .l))) (leave j (pivot n j k tie s)) (factorize n j (pivot n j k tie s))
   unfolding stepAt pivot
   stepAt-is j k tie s = refl
 
   pub phaseOneStep-is : (j : ℕ) (s : Run)
       → phaseOneStep v t gamma n j s
       ≡ cond (leavesBefore v t gamma n j (s .l)) (leave j s)
-      (stepAt v t gamma n j (largest false (diagonalFrom n (s .l) j) .index) (largest false (diagonalFrom n (s .l) j) .tied) s)
+      (stepAt v t gamma n j (pick false (diagonal n (s .l)) j .index) (pick false (diagonal n (s .l)) j .tied) s)
   unfolding phaseOneStep
   phaseOneStep-is j s = refl
 
-  pub inPhaseOne-is : (j : ℕ) (s : Run) → inPhaseOne v t gamma n j s ≡ cond (marked (s .phase2) || marked (s .refused)) s (phaseOneStep v t gamma n j s)
+  pub inPhaseOne-is : (j : ℕ) (s : Run) → inPhaseOne v t gamma n j s ≡ cond (stopped (s .progress)) s (phaseOneStep v t gamma n j s)
   unfolding inPhaseOne
   inPhaseOne-is j s = refl
 
@@ -87,22 +77,22 @@ module _ (v : Variant) (t : Tolerances) (gamma : Float) (n : ℕ) where
   unfolding phaseOne
   phaseOne-is s = refl
 
-  pub phaseTwoStep-is : (j : ℕ) (s : Run) → phaseTwoStep v t gamma n j s ≡ cond (marked (s .refused)) s (phaseTwoStepAt v t gamma n j (largest false (drop j (s .g)) .index) s)
+  pub phaseTwoStep-is : (j : ℕ) (s : Run) → phaseTwoStep v t gamma n j s ≡ cond (marked (s .progress .refused)) s (phaseTwoStepAt v t gamma n j (pick false (s .g) j .index) s)
   unfolding phaseTwoStep
   phaseTwoStep-is j s = refl
 
-  pub lastPair-is : (s : Run) → lastPair v t gamma n s ≡ addLast n (pairOf v t gamma n (s .l) (s .delta-prev)) s
+  pub lastPair-is : (s : Run) → lastPair v t gamma n s ≡ addLast n (pairOf v t gamma n (s .l) (s .progress .«delta_prev»)) s
   unfolding lastPair
   lastPair-is s = refl
 
   pub pairs-is : (k : ℕ) (s : Run)
       → pairs v t gamma n k s
-      ≡ cond (marked (range k (n - 2) (phaseTwoStep v t gamma n) (begin n k s) .refused)) (range k (n - 2) (phaseTwoStep v t gamma n) (begin n k s))
+      ≡ cond (marked (range k (n - 2) (phaseTwoStep v t gamma n) (begin n k s) .progress .refused)) (range k (n - 2) (phaseTwoStep v t gamma n) (begin n k s))
       (lastPair v t gamma n (range k (n - 2) (phaseTwoStep v t gamma n) (begin n k s)))
   unfolding pairs
   pairs-is k s = refl
 
-  pub phaseTwoFrom-is : (k : ℕ) (s : Run) → phaseTwoFrom v t gamma n k s ≡ cond (eqb k (n - 1)) (lastOne t gamma n s) (pairs v t gamma n k s)
+  pub phaseTwoFrom-is : (k : ℕ) (s : Run) → phaseTwoFrom v t gamma n k s ≡ cond (eqb k (n - 1)) (lastOne v t gamma n s) (pairs v t gamma n k s)
   unfolding phaseTwoFrom
   phaseTwoFrom-is k s = refl
 
@@ -114,9 +104,9 @@ module _ (v : Variant) (t : Tolerances) (gamma : Float) (n : ℕ) where
   unfolding phaseTwoAfter
   after-step m k s e = rw e
 
-pub lastOne-is : (t : Tolerances) (gamma : Float) (n : ℕ) (s : Run) → lastOne t gamma n s ≡ addLast n (oneOf t gamma (at n (s .l) (n - 1) (n - 1))) s
+pub lastOne-is : (v : Variant) (t : Tolerances) (gamma : Float) (n : ℕ) (s : Run) → lastOne v t gamma n s ≡ addLast n (oneOf v t gamma (at n (s .l) (n - 1) (n - 1))) s
 unfolding lastOne
-lastOne-is t gamma n s = refl
+lastOne-is v t gamma n s = refl
 
 pub run-is : (v : Variant) (t : Tolerances) (n : ℕ) (a : List Float) → run v t n a ≡ phaseTwo v t (diagonalMax n a) n (phaseOne v t (diagonalMax n a) n (start n a))
 unfolding run
@@ -126,9 +116,9 @@ pub rows-of-pair : (v : Variant) (t : Tolerances) (gamma : Float) (n : ℕ) (l :
 unfolding pairOf
 rows-of-pair v t gamma n l delta-prev last e h = rw e h
 
-pub rows-of-one : (t : Tolerances) (gamma : Float) (n : ℕ) (ljj : Float) (last : Last) → last ≡ oneOf t gamma ljj → 1 ≤ n → rowsOf last ≤ n
+pub rows-of-one : (v : Variant) (t : Tolerances) (gamma : Float) (n : ℕ) (ljj : Float) (last : Last) → last ≡ oneOf v t gamma ljj → 1 ≤ n → rowsOf last ≤ n
 unfolding oneOf
-rows-of-one t gamma n ljj last e h = rw e h
+rows-of-one v t gamma n ljj last e h = rw e h
 
 -- ---- marks of steps below n
 abbrev pub Below : ℕ → Mark → Type 0

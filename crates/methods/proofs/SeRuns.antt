@@ -1,7 +1,7 @@
 -- What every statement of SE90 and SE99 keeps, the run keeps: the pivots are rows, phase one is left at a row where a test passed,
 -- and two rows are left for the pair. So p is a permutation.
 use mathlib.Core.Path.{_≡_, refl, sym, ap, _∙_, subst}
-use mathlib.Core.Bool.{Bool, true, false, cond, _||_}
+use mathlib.Core.Bool.{Bool, true, false, cond}
 use mathlib.Core.Logic.{_⊎_, inl, inr}
 use mathlib.Core.List.{List}
 use Prim.Native.Nat.{ℕ, _+_, _-_, _≤_, _<_}
@@ -12,31 +12,33 @@ use lib.Dec.{eqb}
 use lib.ListN.{length, getD, set, length-set, length-replicate}
 use lib.Ieee.{Float, nan, lt}
 use Rattle.arithmetic.specs.Double.{plus-zero, one, epsilon, _⊕_, _⊖_, _⊗_, _⊘_, abs}
-use Rattle.arithmetic.specs.Loop.{range, range-none, range-ind}
-use Rattle.arithmetic.specs.Order.{or-1}
+use Rattle.arithmetic.specs.Loop.{range}
+use Rattle.arithmetic.proofs.LoopLaws.{range-none, range-ind}
+use Rattle.arithmetic.proofs.OrderLaws.{or-1}
 use Rattle.matrix.specs.Matrix.{at}
-use Rattle.matrix.proofs.Bijection.{Is, is, holds, fails}
+use Rattle.arithmetic.proofs.Cases.{Is, is, holds, fails}
 use Rattle.methods.specs.Marks.{marked}
+use Rattle.methods.specs.Progress.{stopped}
 use Rattle.methods.specs.Statements.{diagonalMax, pivotMatrix}
-use Rattle.methods.specs.Se.{Run, start, tmpOf, leavesBefore, leavesAfter, leave, pivot, factorize, stepAt, phaseOneStep, inPhaseOne, phaseOne, rowSum, columnSum, bounds, updateBounds, phaseTwoStepAt, phaseTwoStep, pairOf, oneOf, addPair, addOne, lastPair, lastOne, begin, pairs, phaseTwoFrom, phaseTwoAfter, phaseTwo, run}
+use Rattle.methods.specs.Se.{Run, start, leavesBefore, leavesAfter, leave, pivot, factorize, stepAt, phaseOneStep, inPhaseOne, phaseOne, rowSum, columnSum, bounds, updateBounds, phaseTwoStepAt, phaseTwoStep, pairOf, oneOf, addPair, addOne, lastPair, lastOne, begin, pairs, phaseTwoFrom, phaseTwoAfter, phaseTwo, run}
 use Rattle.methods.specs.declared.decomposition.Mark.{Mark}
 use Rattle.methods.specs.declared.decomposition.Mark.the-variants.{Never, Step}
 use Rattle.methods.specs.declared.schnabel_eskow.Tolerances.{Tolerances}
 use Rattle.methods.specs.declared.schnabel_eskow.Variant.{Variant}
 use Rattle.methods.proofs.Moved.{length-pivot}
-use Rattle.methods.proofs.Pivots.{pick-below, Permuted, identity-permuted, pivot-permuted}
+use Rattle.methods.proofs.Pivots.{pick-below, diagonal-below, Permuted, identity-permuted, pivot-permuted}
 use Rattle.methods.proofs.Refused.{unmarked-never}
-use Rattle.methods.proofs.SeLaws.{cond-keeps, bounds-pick, stepAt-is, phaseOneStep-is, inPhaseOne-is, phaseOne-is, phaseTwoStep-is, pairs-is, phaseTwoFrom-is, after-never, after-step, run-is, Below, never-below, mark-below}
+use Rattle.methods.proofs.SeLaws.{cond-keeps, stepAt-is, phaseOneStep-is, inPhaseOne-is, phaseOne-is, phaseTwoStep-is, pairs-is, phaseTwoFrom-is, after-never, after-step, run-is, Below, never-below, mark-below}
 
 -- the test before the search, or the one after it
 abbrev pub Leaves : Variant → Tolerances → Float → ℕ → ℕ → List Float → Type 0
-Leaves v t gamma n j l = (leavesBefore v t gamma n j l ≡ true) ⊎ (leavesAfter v t gamma (tmpOf n j l) ≡ true)
+Leaves v t gamma n j l = (leavesBefore v t gamma n j l ≡ true) ⊎ (leavesAfter v t gamma n j l ≡ true)
 
 -- ---- P holds after each statement of phase one where it holds before
 pub record KeptInPhaseOne (v : Variant) (t : Tolerances) (gamma : Float) (n : ℕ) (P : Run → Type 0) : Type 0 where
-  pub by-leave : (j : ℕ) (s : Run) → j < n → s .phase2 ≡ Never → Leaves v t gamma n j (s .l) → P s → P (leave j s)
-  pub by-pivot : (j k : ℕ) (tie : Bool) (s : Run) → j < n → j + k < n → s .phase2 ≡ Never → P s → P (pivot n j k tie s)
-  pub by-factorize : (j : ℕ) (s : Run) → j < n → s .phase2 ≡ Never → P s → P (factorize n j s)
+  pub by-leave : (j : ℕ) (s : Run) → j < n → s .progress .phase2 ≡ Never → Leaves v t gamma n j (s .l) → P s → P (leave j s)
+  pub by-pivot : (j k : ℕ) (tie : Bool) (s : Run) → j < n → j + k < n → s .progress .phase2 ≡ Never → P s → P (pivot n j k tie s)
+  pub by-factorize : (j : ℕ) (s : Run) → j < n → s .progress .phase2 ≡ Never → P s → P (factorize n j s)
 
 -- ---- Q holds after phase one where P does, and after each statement of phase two where it holds before
 pub record KeptInPhaseTwo (v : Variant) (t : Tolerances) (gamma : Float) (n : ℕ) (P Q : Run → Type 0) : Type 0 where
@@ -44,12 +46,12 @@ pub record KeptInPhaseTwo (v : Variant) (t : Tolerances) (gamma : Float) (n : �
   pub by-begin : (k : ℕ) (s : Run) → k < n → Q s → Q (begin n k s)
   pub by-step : (j k : ℕ) (s : Run) → j < n → j + k < n → Q s → Q (phaseTwoStepAt v t gamma n j k s)
   pub by-pair : (s : Run) → 2 ≤ n → Q s → Q (lastPair v t gamma n s)
-  pub by-one : (s : Run) → 1 ≤ n → s .phase2 ≡ Step (n - 1) → P s → Q (lastOne t gamma n s)
+  pub by-one : (s : Run) → 1 ≤ n → s .progress .phase2 ≡ Step (n - 1) → P s → Q (lastOne v t gamma n s)
 
 -- ---- phase one
 module _ (v : Variant) (t : Tolerances) (gamma : Float) (n : ℕ) (P : Run → Type 0) (K : KeptInPhaseOne v t gamma n P) where
-  stepAt-keeps : (j k : ℕ) (tie : Bool) (s : Run) → j < n → j + k < n → s .phase2 ≡ Never → P s → P (stepAt v t gamma n j k tie s)
-  stepAt-keeps j k tie s h hk m b = subst P (sym (stepAt-is v t gamma n j k tie s)) (go (is (leavesAfter v t gamma (tmpOf n j (pivotMatrix n j k (s .l))))))
+  stepAt-keeps : (j k : ℕ) (tie : Bool) (s : Run) → j < n → j + k < n → s .progress .phase2 ≡ Never → P s → P (stepAt v t gamma n j k tie s)
+  stepAt-keeps j k tie s h hk m b = subst P (sym (stepAt-is v t gamma n j k tie s)) (go (is (leavesAfter v t gamma n j (pivotMatrix n j k (s .l)))))
     where
       s₁ : Run
       s₁ = pivot n j k tie s
@@ -57,38 +59,38 @@ module _ (v : Variant) (t : Tolerances) (gamma : Float) (n : ℕ) (P : Run → T
       b₁ : P s₁
       b₁ = K .by-pivot j k tie s h hk m b
 
-      go : Is (leavesAfter v t gamma (tmpOf n j (pivotMatrix n j k (s .l)))) → P (cond (leavesAfter v t gamma (tmpOf n j (pivotMatrix n j k (s .l)))) (leave j s₁) (factorize n j s₁))
+      go : Is (leavesAfter v t gamma n j (pivotMatrix n j k (s .l))) → P (cond (leavesAfter v t gamma n j (pivotMatrix n j k (s .l))) (leave j s₁) (factorize n j s₁))
       go (holds e) = rw e (K .by-leave j s₁ h (unfold pivot in m) (inr (unfold pivot in e)) b₁)
       go (fails e) = rw e (K .by-factorize j s₁ h (unfold pivot in m) b₁)
 
-  phaseOneStep-keeps : (j : ℕ) (s : Run) → j < n → s .phase2 ≡ Never → P s → P (phaseOneStep v t gamma n j s)
+  phaseOneStep-keeps : (j : ℕ) (s : Run) → j < n → s .progress .phase2 ≡ Never → P s → P (phaseOneStep v t gamma n j s)
   phaseOneStep-keeps j s h m b = go (is (leavesBefore v t gamma n j (s .l)))
     where
       go : Is (leavesBefore v t gamma n j (s .l)) → P (phaseOneStep v t gamma n j s)
       go (holds e) = rw (phaseOneStep-is v t gamma n j s, e) (K .by-leave j s h m (inl e) b)
-      go (fails e) = rw (phaseOneStep-is v t gamma n j s, e) (stepAt-keeps j _ _ s h (pick-below false n j (s .l) h) m b)
+      go (fails e) = rw (phaseOneStep-is v t gamma n j s, e) (stepAt-keeps j _ _ s h (diagonal-below false n j (s .l) h) m b)
 
   pub inPhaseOne-keeps : (j : ℕ) (s : Run) → j < n → P s → P (inPhaseOne v t gamma n j s)
-  inPhaseOne-keeps j s h b = go (is (marked (s .phase2) || marked (s .refused)))
+  inPhaseOne-keeps j s h b = go (is (stopped (s .progress)))
     where
-      go : Is (marked (s .phase2) || marked (s .refused)) → P (inPhaseOne v t gamma n j s)
+      go : Is (stopped (s .progress)) → P (inPhaseOne v t gamma n j s)
       go (holds e) = rw (inPhaseOne-is v t gamma n j s, e) b
-      go (fails e) = rw (inPhaseOne-is v t gamma n j s, e) (phaseOneStep-keeps j s h (unmarked-never (s .phase2) (or-1 (marked (s .phase2)) (marked (s .refused)) e)) b)
+      go (fails e) = rw (inPhaseOne-is v t gamma n j s, e) (phaseOneStep-keeps j s h (unmarked-never (s .progress .phase2) (or-1 (marked (s .progress .phase2)) (marked (s .progress .refused)) e)) b)
 
   pub phaseOne-keeps : (s : Run) → P s → P (phaseOne v t gamma n s)
   phaseOne-keeps s b = subst P (sym (phaseOne-is v t gamma n s)) (range-ind (λ i x. P x) 0 n (inPhaseOne v t gamma n) s (omega arith) b (λ i p q x h. inPhaseOne-keeps i x q h))
 
 -- it is left at a step below n
-below-one : (v : Variant) (t : Tolerances) (gamma : Float) (n : ℕ) → KeptInPhaseOne v t gamma n (λ s. Below n (s .phase2))
+below-one : (v : Variant) (t : Tolerances) (gamma : Float) (n : ℕ) → KeptInPhaseOne v t gamma n (λ s. Below n (s .progress .phase2))
 unfolding pivot factorize
-below-one v t gamma n = record { by-leave = λ j s h m w b. mark-below n j (s .phase2) true h b; by-pivot = λ j k tie s h hk m b. b; by-factorize = λ j s h m b. b }
+below-one v t gamma n = record { by-leave = λ j s h m w b. mark-below n j (s .progress .phase2) true h b; by-pivot = λ j k tie s h hk m b. b; by-factorize = λ j s h m b. b }
 
-below-start : (n : ℕ) (a : List Float) → Below n (start n a .phase2)
+below-start : (n : ℕ) (a : List Float) → Below n (start n a .progress .phase2)
 unfolding start
 below-start n a = never-below n
 
-pub phaseOne-below : (v : Variant) (t : Tolerances) (gamma : Float) (n : ℕ) (a : List Float) → Below n (phaseOne v t gamma n (start n a) .phase2)
-phaseOne-below v t gamma n a = phaseOne-keeps v t gamma n (λ s. Below n (s .phase2)) (below-one v t gamma n) (start n a) (below-start n a)
+pub phaseOne-below : (v : Variant) (t : Tolerances) (gamma : Float) (n : ℕ) (a : List Float) → Below n (phaseOne v t gamma n (start n a) .progress .phase2)
+phaseOne-below v t gamma n a = phaseOne-keeps v t gamma n (λ s. Below n (s .progress .phase2)) (below-one v t gamma n) (start n a) (below-start n a)
 
 -- ---- g has n elements throughout
 length-written : {A : Type 0} (a b : ℕ) (f : ℕ → List A → A) (l : List A) → a ≤ b → length (range a b (λ i h. set h i (f i h)) l) ≡ length l
@@ -129,9 +131,9 @@ record Both (n : ℕ) (Q : Run → Type 0) (s : Run) : Type 0 where
 
 module _ (v : Variant) (t : Tolerances) (gamma : Float) (n : ℕ) (P Q : Run → Type 0) (K : KeptInPhaseTwo v t gamma n P Q) where
   phaseTwoStep-keeps : (j : ℕ) (s : Run) → j < n → Both n Q s → Both n Q (phaseTwoStep v t gamma n j s)
-  phaseTwoStep-keeps j s h b = subst (Both n Q) (sym (phaseTwoStep-is v t gamma n j s)) (cond-keeps (Both n Q) (marked (s .refused)) _ _ b (record {
+  phaseTwoStep-keeps j s h b = subst (Both n Q) (sym (phaseTwoStep-is v t gamma n j s)) (cond-keeps (Both n Q) (marked (s .progress .refused)) _ _ b (record {
     sized = sized-step v t gamma n j _ s h (b .sized);
-    kept = K .by-step j _ s h (bounds-pick n j (s .g) _ refl (b .sized) h) (b .kept);
+    kept = K .by-step j _ s h (pick-below false (s .g) n j (b .sized) h) (b .kept);
   }))
 
   steps-keep : (k : ℕ) (s : Run) → Both n Q s → Both n Q (range k (n - 2) (phaseTwoStep v t gamma n) s)
@@ -144,16 +146,16 @@ module _ (v : Variant) (t : Tolerances) (gamma : Float) (n : ℕ) (P Q : Run →
   pairs-keep k s h h2 b =
       let s₁ = range k (n - 2) (phaseTwoStep v t gamma n) (begin n k s) in
       let b₁ = steps-keep k (begin n k s) (record { sized = sized-begin n k s h (b .sized); kept = K .by-begin k s h (b .kept) }) in
-      subst Q (sym (pairs-is v t gamma n k s)) (cond-keeps Q (marked (s₁ .refused)) _ _ (b₁ .kept) (K .by-pair s₁ h2 (b₁ .kept)))
+      subst Q (sym (pairs-is v t gamma n k s)) (cond-keeps Q (marked (s₁ .progress .refused)) _ _ (b₁ .kept) (K .by-pair s₁ h2 (b₁ .kept)))
 
-  from-keeps : (k : ℕ) (s : Run) → k < n → s .phase2 ≡ Step k → Sized n s → P s → Q (phaseTwoFrom v t gamma n k s)
+  from-keeps : (k : ℕ) (s : Run) → k < n → s .progress .phase2 ≡ Step k → Sized n s → P s → Q (phaseTwoFrom v t gamma n k s)
   from-keeps k s h m z b = subst Q (sym (phaseTwoFrom-is v t gamma n k s)) (go (is (eqb k (n - 1))))
     where
-      go : Is (eqb k (n - 1)) → Q (cond (eqb k (n - 1)) (lastOne t gamma n s) (pairs v t gamma n k s))
+      go : Is (eqb k (n - 1)) → Q (cond (eqb k (n - 1)) (lastOne v t gamma n s) (pairs v t gamma n k s))
       go (holds e) = rw e (K .by-one s (omega arith) (m ∙ ap Step (eqb-true k (n - 1) e)) b)
       go (fails e) = rw e (pairs-keep k s h (omega (arith, eqb-false k (n - 1) e)) (record { sized = z; kept = K .after-one s b }))
 
-  after-keeps : (m : Mark) (s : Run) → s .phase2 ≡ m → Below n m → Sized n s → P s → Q (phaseTwoAfter v t gamma n m s)
+  after-keeps : (m : Mark) (s : Run) → s .progress .phase2 ≡ m → Below n m → Sized n s → P s → Q (phaseTwoAfter v t gamma n m s)
   after-keeps Never s e h z b = subst Q (sym (after-never v t gamma n Never s refl)) (K .after-one s b)
   after-keeps (Step k) s e h z b = subst Q (sym (after-step v t gamma n (Step k) k s refl)) (from-keeps k s (h k refl) e z b)
 
@@ -162,7 +164,7 @@ pub phaseTwo-keeps : (v : Variant) (t : Tolerances) (gamma : Float) (n : ℕ) (a
     → let s = phaseOne v t gamma n (start n a) in P s → Q (phaseTwo v t gamma n s)
 phaseTwo-keeps v t gamma n a P Q K b =
     let s = phaseOne v t gamma n (start n a) in
-    after-keeps v t gamma n P Q K (s .phase2) s refl (phaseOne-below v t gamma n a) (phaseOne-keeps v t gamma n (Sized n) (sized-one v t gamma n) (start n a) (sized-start n a)) b
+    after-keeps v t gamma n P Q K (s .progress .phase2) s refl (phaseOne-below v t gamma n a) (phaseOne-keeps v t gamma n (Sized n) (sized-one v t gamma n) (start n a) (sized-start n a)) b
 
 -- ---- a whole run
 pub run-keeps : (v : Variant) (t : Tolerances) (n : ℕ) (a : List Float) (P Q : Run → Type 0)

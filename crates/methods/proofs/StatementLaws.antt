@@ -1,30 +1,11 @@
--- What the statements' code leaves in a list, each value named: lists written place by place, pivots.
+-- What a pivot leaves in a matrix and in a list, each value named.
 use mathlib.Core.Path.{_≡_, sym, ap, _∙_}
 use mathlib.Core.List.{List}
-use Prim.Native.Nat.{ℕ, _+_, _≤_, _<_}
-use native.Mathlib.Decide.{ℕ-discrete}
-use native.Mathlib.Omega.{arith}
+use Prim.Native.Nat.{ℕ, _+_}
 use borrow.Author.Tests.{eq-eqb, ne-eqb}
-use lib.ListN.{length, getD, set}
-use lib.Seq.{getD-set-same, getD-set-other, ext-getD}
 use lib.Ieee.{Float}
-use Rattle.matrix.specs.Table.{table, length-table, getD-table}
 use Rattle.matrix.specs.Swap.{swap, swap-rows, swap-columns}
 use Rattle.methods.specs.Statements.{pivotMatrix, pivotList}
-
--- ---- the places a to i - 1 are written
-module _ {A : Type 0} (d : A) (f : ℕ → A) where
-  abbrev pub Written : ℕ → ℕ → List A → Type 0
-  Written a i l = (k : ℕ) → a ≤ k → k < i → getD l k d ≡ f k
-
-  pub written-more : (a i : ℕ) (l : List A) (v : A) → i < length l → v ≡ f i → Written a i l → Written a (i + 1) (set l i v)
-  written-more a i l v h e w k p q = elim (ℕ-discrete k i) [
-    | yes s ↦ rw s (getD-set-same l i v d h ∙ e)
-    | no s ↦ getD-set-other l i k v d s ∙ w k p (omega arith)
-  ]
-
-  pub written-is : (n i : ℕ) (l : List A) → length l ≡ n → n ≤ i → Written 0 i l → l ≡ table n f
-  written-is n i l e h w = ext-getD d l (table n f) (e ∙ sym (length-table n f)) (λ k p. w k (omega arith) (omega arith) ∙ sym (getD-table n f k d (omega arith)))
 
 -- ---- pivots
 swapped : (n j k : ℕ) (m : List Float) → (k ≡ 0 → ⊥) → pivotMatrix n j k m ≡ swap-columns n (swap-rows n m j (j + k)) j (j + k)

@@ -5,7 +5,8 @@ use Prim.Native.Nat.{ℕ, suc, _≤_, _<_}
 use native.Mathlib.Decide.{ℕ-discrete}
 use native.Mathlib.Omega.{arith}
 use lib.Ieee.{Float}
-use Rattle.arithmetic.specs.Loop.{range, range-ind}
+use Rattle.arithmetic.specs.Loop.{range}
+use Rattle.arithmetic.proofs.LoopLaws.{range-ind}
 use Rattle.matrix.specs.Matrix.{put}
 use Rattle.matrix.proofs.EntryLaws.{Entries, put-entries, at-put-same, at-put-other}
 use Rattle.methods.specs.Elimination.{Rest, Stored}

@@ -6,8 +6,10 @@ use native.Mathlib.Decide.{ℕ-discrete, decLt}
 use native.Mathlib.Omega.{arith}
 use lib.ListN.{getD}
 use lib.Ieee.{Float, nan}
-use Rattle.arithmetic.specs.Loop.{range, range-ind}
-use Rattle.matrix.specs.Matrix.{Square, at, cell-lt}
+use Rattle.arithmetic.specs.Loop.{range}
+use Rattle.arithmetic.proofs.LoopLaws.{range-ind}
+use Rattle.matrix.specs.Matrix.{Square, at}
+use Rattle.matrix.proofs.CellLaws.{cell-lt}
 use Rattle.matrix.specs.Swap.{swap}
 use Rattle.matrix.proofs.EntryLaws.{Entries, cell-row, cell-column}
 use Rattle.matrix.proofs.SwapLaws.{transpose, Transposed, first, second, other, transposed, transpose-first, transpose-second, transpose-other, length-swap, getD-swap}

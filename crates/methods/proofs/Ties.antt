@@ -3,39 +3,39 @@ use mathlib.Core.Path.{_≡_}
 use mathlib.Core.Bool.{true, false}
 use Prim.Native.Nat.{ℕ}
 use lib.Ieee.{Float}
-use Rattle.matrix.specs.Search.{largest}
-use Rattle.matrix.proofs.Bijection.{Is, is, holds, fails}
+use Rattle.arithmetic.proofs.Cases.{Is, is, holds, fails}
 use Rattle.methods.specs.Marks.{mark, marked}
-use Rattle.methods.specs.Statements.{diagonalFrom, pivotMatrix}
+use Rattle.methods.specs.Progress.{stopped}
+use Rattle.methods.specs.Statements.{diagonal, pick, pivotMatrix}
 use Rattle.methods.specs.Gmw81 as gmw
 use Rattle.methods.specs.Se as se
 use Rattle.methods.specs.declared.schnabel_eskow.Tolerances.{Tolerances}
 use Rattle.methods.specs.declared.schnabel_eskow.Variant.{Variant}
 
-pub gmw81-tie : (n : ℕ) (delta beta : Float) (j : ℕ) (s : gmw.Run) → marked (s .refused) ≡ false
-    → gmw.step n delta beta j s .tied ≡ mark (s .tied) (largest true (diagonalFrom n (s .c) j) .tied) j
+pub gmw81-tie : (n : ℕ) (delta beta : Float) (j : ℕ) (s : gmw.Run) → stopped (s .progress) ≡ false
+    → gmw.step n delta beta j s .progress .tied ≡ mark (s .progress .tied) (pick true (diagonal n (s .c)) j .tied) j
 unfolding gmw.step gmw.stepAt
 gmw81-tie n delta beta j s e = rw e
 
 pub se-tie : (v : Variant) (t : Tolerances) (gamma : Float) (n j : ℕ) (s : se.Run) → se.leavesBefore v t gamma n j (s .l) ≡ false
-    → se.phaseOneStep v t gamma n j s .tied ≡ mark (s .tied) (largest false (diagonalFrom n (s .l) j) .tied) j
+    → se.phaseOneStep v t gamma n j s .progress .tied ≡ mark (s .progress .tied) (pick false (diagonal n (s .l)) j .tied) j
 unfolding se.phaseOneStep se.stepAt se.pivot se.factorize
-se-tie v t gamma n j s e = go (is (se.leavesAfter v t gamma (se.tmpOf n j (pivotMatrix n j (largest false (diagonalFrom n (s .l) j) .index) (s .l)))))
+se-tie v t gamma n j s e = go (is (se.leavesAfter v t gamma n j (pivotMatrix n j (pick false (diagonal n (s .l)) j .index) (s .l))))
   where
-    go : Is (se.leavesAfter v t gamma (se.tmpOf n j (pivotMatrix n j (largest false (diagonalFrom n (s .l) j) .index) (s .l))))
-        → se.phaseOneStep v t gamma n j s .tied ≡ mark (s .tied) (largest false (diagonalFrom n (s .l) j) .tied) j
+    go : Is (se.leavesAfter v t gamma n j (pivotMatrix n j (pick false (diagonal n (s .l)) j .index) (s .l)))
+        → se.phaseOneStep v t gamma n j s .progress .tied ≡ mark (s .progress .tied) (pick false (diagonal n (s .l)) j .tied) j
     go (holds p) = rw (e, p)
     go (fails p) = rw (e, p)
 
 pub se-no-search : (v : Variant) (t : Tolerances) (gamma : Float) (n j : ℕ) (s : se.Run) → se.leavesBefore v t gamma n j (s .l) ≡ true
-    → se.phaseOneStep v t gamma n j s .tied ≡ s .tied
+    → se.phaseOneStep v t gamma n j s .progress .tied ≡ s .progress .tied
 unfolding se.phaseOneStep
 se-no-search v t gamma n j s e = rw e
 
-pub phase-two-no-tie : (v : Variant) (t : Tolerances) (gamma : Float) (n j : ℕ) (s : se.Run) → se.phaseTwoStep v t gamma n j s .tied ≡ s .tied
+pub phase-two-no-tie : (v : Variant) (t : Tolerances) (gamma : Float) (n j : ℕ) (s : se.Run) → se.phaseTwoStep v t gamma n j s .progress .tied ≡ s .progress .tied
 unfolding se.phaseTwoStep se.phaseTwoStepAt
-phase-two-no-tie v t gamma n j s = go (is (marked (s .refused)))
+phase-two-no-tie v t gamma n j s = go (is (marked (s .progress .refused)))
   where
-    go : Is (marked (s .refused)) → se.phaseTwoStep v t gamma n j s .tied ≡ s .tied
+    go : Is (marked (s .progress .refused)) → se.phaseTwoStep v t gamma n j s .progress .tied ≡ s .progress .tied
     go (holds p) = rw p
     go (fails p) = rw p

@@ -6,16 +6,13 @@ use Rattle.methods.specs.Result.{Result}
 use Rattle.methods.specs.Gmw81.{mod-cholesky-gmw81}
 use Rattle.methods.specs.Se.{mod-cholesky-se}
 use Rattle.methods.specs.declared.schnabel_eskow.Tolerances.{Tolerances}
-use Rattle.methods.specs.declared.schnabel_eskow.Variant.{Variant}
-
-pub data Method : Type 0 where
-  gmw81 : Method
-  se : Variant → Method
+use Rattle.methods.specs.declared.method.Method.{Method}
+use Rattle.methods.specs.declared.method.Method.the-variants.{Gmw81, Se}
 
 unfoldable pub factor : Method → Tolerances → ℕ → List Float → Result
 unfolding mod-cholesky-gmw81 mod-cholesky-se
-factor gmw81 t n a = mod-cholesky-gmw81 n a
-factor (se v) t n a = mod-cholesky-se v t n a
+factor Gmw81 t n a = mod-cholesky-gmw81 n a
+factor (Se v) t n a = mod-cholesky-se v t n a
 
 -- tau is EPSILON.cbrt(): the double nearest the real cube root of 2^-52
 abbrev pub tau : Float

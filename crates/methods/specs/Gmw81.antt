@@ -1,7 +1,7 @@
 -- GMW81, statement by statement beside src/gmw81.rs.
 use mathlib.Core.Path.{_≡_}
 use mathlib.Core.List.{List}
-use mathlib.Core.Bool.{Bool, true, cond, not, _&&_}
+use mathlib.Core.Bool.{Bool, true, cond, _&&_}
 use Prim.Native.Nat.{ℕ, _+_, _-_, _*_, _/_, _%_}
 use lib.IntN.{pos}
 use lib.ListN.{getD, set}
@@ -14,14 +14,12 @@ use Rattle.arithmetic.specs.Loop.{range}
 use Rattle.arithmetic.specs.Sqrt.{sqrt}
 use Rattle.matrix.specs.Matrix.{at, put, zeros}
 use Rattle.matrix.specs.Table.{table}
-use Rattle.matrix.specs.Search.{largest}
-use Rattle.methods.specs.Marks.{mark, marked}
-use Rattle.methods.specs.Statements.{largerMagnitude, diagonalMax, diagonalFrom, pivotMatrix, pivotList, lowerTriangle, reorder}
+use Rattle.methods.specs.Marks.{marked}
+use Rattle.methods.specs.Progress.{begun, searched, stored, stopped}
+use Rattle.methods.specs.Statements.{largerMagnitude, diagonalMax, diagonal, pick, pivotMatrix, pivotList, lowerTriangle, reorder}
 use Rattle.methods.specs.Result.{Result, identity, handBack}
-use Rattle.methods.specs.declared.gmw81.Marks.{Marks}
 use Rattle.methods.specs.declared.gmw81.StepValues.{StepValues}
-use Rattle.methods.specs.declared.decomposition.Mark.{Mark}
-use Rattle.methods.specs.declared.decomposition.Mark.the-variants.{Never}
+use Rattle.methods.specs.declared.progress.Progress.{Progress}
 
 -- ---- before the steps
 
@@ -59,12 +57,10 @@ pub record Run : Type 0 where
   pub d : List Float
   pub e : List Float
   pub p : List ℕ
-  pub tied : Mark
-  pub refused : Mark
+  pub progress : Progress
 
--- the variables that a step's code holds: the lists, and the marks beside them
-abbrev pub state : List Float → List Float → List Float → List Float → List ℕ → Marks → Run
-state l c d e p marks = record { l = l; c = c; d = d; e = e; p = p; tied = marks .tied; refused = marks .refused }
+abbrev pub state : List Float → List Float → List Float → List Float → List ℕ → Progress → Run
+state l c d e p r = record { l = l; c = c; d = d; e = e; p = p; progress = r }
 
 -- c.diag_mut().assign(&l.diag())
 unfoldable pub start : ℕ → List Float → Run
@@ -75,8 +71,7 @@ start n a = record {
   d = zeros n;
   e = zeros n;
   p = identity n;
-  tied = Never;
-  refused = Never;
+  progress = begun;
 }
 
 -- ---- a step
@@ -133,8 +128,7 @@ stepAt n delta beta j max-idx tie s =
       d = set (s .d) j dj;
       e = set (s .e) j ej;
       p = pivotList 0 j max-idx (s .p);
-      tied = mark (s .tied) tie j;
-      refused = mark (s .refused) (not (storedFinite n j l₂ c₃ dj ej)) j;
+      progress = stored (storedFinite n j l₂ c₃ dj ej) j (searched tie j (s .progress));
     }
 
 -- the values of a step between its pivot and its stores to d and e, as the code hands them on
@@ -153,11 +147,11 @@ pub record Stepped (n : ℕ) (delta beta : Float) (j max-idx : ℕ) (l c d l' c'
 
 -- index_of_largest_abs(&c.diag().slice(s![j..])); nothing once the run is refused
 unfoldable pub step : ℕ → Float → Float → ℕ → Run → Run
-unfolding largest diagonalFrom stepAt
+unfolding pick diagonal stepAt
 step n delta beta j s =
-    let f = largest true (diagonalFrom n (s .c) j) in
+    let f = pick true (diagonal n (s .c)) j in
     let next = stepAt n delta beta j (f .index) (f .tied) s in
-    cond (marked (s .refused)) s next
+    cond (stopped (s .progress)) s next
 
 -- ---- after the steps
 
@@ -192,27 +186,31 @@ finish n s =
       d = s .d;
       e = reorder n (s .p) (s .e);
       p = s .p;
-      tied = s .tied;
-      refused = mark (s .refused) (not (scaledFinite n dout l)) n;
+      progress = stored (scaledFinite n dout l) n (s .progress);
     } in
-    cond (marked (s .refused)) s next
+    cond (marked (s .progress .refused)) s next
 
 -- what the code's end of a run leaves: d is used up
-pub record Finished (n : ℕ) (l c d e : List Float) (p : List ℕ) (marks : Marks) (l' e' : List Float) (r : Marks) : Type 0 where
-  pub l-is : l' ≡ finish n (state l c d e p marks) .l
-  pub e-is : e' ≡ finish n (state l c d e p marks) .e
-  pub tied-is : r .tied ≡ finish n (state l c d e p marks) .tied
-  pub refused-is : r .refused ≡ finish n (state l c d e p marks) .refused
+pub record Finished (n : ℕ) (l c d e : List Float) (p : List ℕ) (r : Progress) (l' e' : List Float) (r' : Progress) : Type 0 where
+  pub l-is : l' ≡ finish n (state l c d e p r) .l
+  pub e-is : e' ≡ finish n (state l c d e p r) .e
+  pub progress-is : r' ≡ finish n (state l c d e p r) .progress
 
-unfoldable pub run : ℕ → List Float → Run
-unfolding range start step finish diagonalMax offDiagonalMax deltaOf betaOf
-run n a =
+-- ---- a whole run
+
+-- after its steps
+abbrev pub stepped : ℕ → List Float → Run
+stepped n a =
     let diag-max = diagonalMax n a in
     let off-diag-max = offDiagonalMax n a in
     let delta = deltaOf diag-max off-diag-max in
     let beta = betaOf n diag-max off-diag-max in
-    finish n (range 0 n (step n delta beta) (start n a))
+    range 0 n (step n delta beta) (start n a)
+
+unfoldable pub run : ℕ → List Float → Run
+unfolding range start step finish diagonalMax offDiagonalMax deltaOf betaOf
+run n a = finish n (stepped n a)
 
 unfoldable pub mod-cholesky-gmw81 : ℕ → List Float → Result
 unfolding run
-mod-cholesky-gmw81 n a = let s = run n a in handBack n (s .tied) Never (s .refused) (s .l) (s .e) (s .p)
+mod-cholesky-gmw81 n a = let s = run n a in handBack n (s .progress) (s .l) (s .e) (s .p)

@@ -1,7 +1,10 @@
 pub mod Marks
+pub mod Progress
 pub mod Statements
 pub mod Elimination
 pub mod Result
+pub mod AcceptedMatrix
+pub mod Reloading
 pub mod Gmw81
 pub mod Se
 pub mod Factor

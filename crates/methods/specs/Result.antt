@@ -7,6 +7,7 @@ use Rattle.arithmetic.specs.declared.outcome.Outcome.the-variants.{Complete, St
 use Rattle.matrix.specs.Matrix.{zeros}
 use Rattle.matrix.specs.Table.{table}
 use Rattle.methods.specs.declared.decomposition.Decomposition.{Decomposition}
+use Rattle.methods.specs.declared.progress.Progress.{Progress}
 use Rattle.methods.specs.declared.decomposition.Mark.{Mark}
 use Rattle.methods.specs.declared.decomposition.Mark.the-variants.{Never, Step}
 
@@ -33,10 +34,14 @@ abbrev pub filledOrder : Mark → ℕ → List ℕ → List ℕ
 filledOrder Never n p = p
 filledOrder (Step j) n p = identity n
 
-abbrev pub handBack : ℕ → Mark → Mark → Mark → List Float → List Float → List ℕ → Result
-handBack n tied phase2 refused l e p = record {
-  decomposition = record { outcome = outcomeOf refused; tied = tied; phase2 = phase2 };
-  l = filled refused (n * n) l;
-  e = filled refused n e;
-  p = filledOrder refused n p;
+-- what is reported of a run's progress
+abbrev pub reported : Progress → Decomposition
+reported r = record { outcome = outcomeOf (r .refused); tied = r .tied; phase2 = r .phase2 }
+
+abbrev pub handBack : ℕ → Progress → List Float → List Float → List ℕ → Result
+handBack n r l e p = record {
+  decomposition = reported r;
+  l = filled (r .refused) (n * n) l;
+  e = filled (r .refused) n e;
+  p = filledOrder (r .refused) n p;
 }

@@ -1,9 +1,10 @@
 -- SE90 and SE99, statement by statement beside src/se90.rs and src/se99.rs. They share all but the tests of phase one, the least
 -- amount and the last amount.
+use mathlib.Core.Path.{_≡_}
 use mathlib.Core.List.{List}
-use mathlib.Core.Bool.{Bool, true, false, cond, not, _&&_, _||_}
-use Prim.Native.Nat.{ℕ, _+_, _-_, _*_}
-use lib.ListN.{getD, set, drop}
+use mathlib.Core.Bool.{Bool, true, false, cond, _&&_, _||_}
+use Prim.Native.Nat.{ℕ, _+_, _-_}
+use lib.ListN.{getD, set}
 use lib.Dec.{eqb}
 use lib.Ieee.{Float, nan, inf, lt, neg}
 use lib.Ieee.Scale.{finite}
@@ -13,13 +14,13 @@ use Rattle.arithmetic.specs.Loop.{range}
 use Rattle.arithmetic.specs.Sqrt.{sqrt}
 use Rattle.matrix.specs.Matrix.{at, put, zeros}
 use Rattle.matrix.specs.Table.{table}
-use Rattle.matrix.specs.Search.{largest}
 use Rattle.matrix.specs.Eigenvalues.{eigenvaluesOf}
 use Rattle.matrix.specs.declared.utils.Eigen.{Eigen}
-use Rattle.methods.specs.Marks.{mark, marked}
-use Rattle.methods.specs.Statements.{diagonalMax, diagonalFrom, pivotMatrix, pivotList, eliminate, lowerTriangle, reorder, blockFinite}
+use Rattle.methods.specs.Marks.{marked}
+use Rattle.methods.specs.Progress.{begun, searched, left, stored, kept, stopped}
+use Rattle.methods.specs.Statements.{diagonalMax, diagonal, pick, pivotMatrix, pivotList, eliminate, lowerTriangle, reorder, blockFinite}
 use Rattle.methods.specs.Result.{Result, identity, handBack}
-use Rattle.methods.specs.declared.schnabel_eskow.Progress.{Progress}
+use Rattle.methods.specs.declared.progress.Progress.{Progress}
 use Rattle.methods.specs.declared.schnabel_eskow.Tolerances.{Tolerances}
 use Rattle.methods.specs.declared.schnabel_eskow.Variant.{Variant}
 use Rattle.methods.specs.declared.schnabel_eskow.Variant.the-variants.{Se90, Se99}
@@ -33,22 +34,18 @@ pub record Run : Type 0 where
   pub e : List Float
   pub g : List Float
   pub p : List ℕ
-  pub delta-prev : Float
-  pub tied : Mark
-  pub phase2 : Mark
-  pub refused : Mark
+  pub progress : Progress
 
--- the variables that a step's code holds: the lists, and what stands beside them
 abbrev pub state : List Float → List Float → List Float → List ℕ → Progress → Run
-state l e g p r = record { l = l; e = e; g = g; p = p; delta-prev = r .«delta_prev»; tied = r .tied; phase2 = r .phase2; refused = r .refused }
+state l e g p r = record { l = l; e = e; g = g; p = p; progress = r }
 
 -- the state with +0.0 above the diagonal of l
 abbrev pub lowered : ℕ → Run → Run
-lowered n s = record { l = lowerTriangle n (s .l); e = s .e; g = s .g; p = s .p; delta-prev = s .delta-prev; tied = s .tied; phase2 = s .phase2; refused = s .refused }
+lowered n s = state (lowerTriangle n (s .l)) (s .e) (s .g) (s .p) (s .progress)
 
 unfoldable pub start : ℕ → List Float → Run
 unfolding table
-start n a = record { l = a; e = zeros n; g = zeros n; p = identity n; delta-prev = plus-zero; tied = Never; phase2 = Never; refused = Never }
+start n a = state a (zeros n) (zeros n) (identity n) begun
 
 -- ---- phase one
 
@@ -80,49 +77,40 @@ leavesBefore Se99 t gamma n j l =
     let aii-max = aiiMax n j l in
     lt aii-max (t .«tau_bar» ⊗ gamma) || lt (aiiMin n j l) (neg (t .mu) ⊗ aii-max)
 
--- the test after search and swap, on tmp
-unfoldable pub leavesAfter : Variant → Tolerances → Float → Float → Bool
-unfolding lt neg
-leavesAfter Se90 t gamma tmp = lt tmp (t .tau ⊗ gamma)
-leavesAfter Se99 t gamma tmp = lt tmp (neg (t .mu) ⊗ gamma)
+-- the test after search and swap, of step j on the matrix with its pivot at (j, j)
+unfoldable pub leavesAfter : Variant → Tolerances → Float → ℕ → ℕ → List Float → Bool
+unfolding tmpOf lt neg
+leavesAfter Se90 t gamma n j l = lt (tmpOf n j l) (t .tau ⊗ gamma)
+leavesAfter Se99 t gamma n j l = lt (tmpOf n j l) (neg (t .mu) ⊗ gamma)
 
 -- the run leaves phase one at step j
 abbrev pub leave : ℕ → Run → Run
-leave j s = record { l = s .l; e = s .e; g = s .g; p = s .p; delta-prev = s .delta-prev; tied = s .tied; phase2 = mark (s .phase2) true j; refused = s .refused }
+leave j s = state (s .l) (s .e) (s .g) (s .p) (left j (s .progress))
 
 -- the pivot max_idx after j goes to j
 unfoldable pub pivot : ℕ → ℕ → ℕ → Bool → Run → Run
 unfolding pivotMatrix pivotList
-pivot n j max-idx tie s = record {
-  l = pivotMatrix n j max-idx (s .l);
-  e = s .e;
-  g = s .g;
-  p = pivotList 0 j max-idx (s .p);
-  delta-prev = s .delta-prev;
-  tied = mark (s .tied) tie j;
-  phase2 = s .phase2;
-  refused = s .refused;
-}
+pivot n j max-idx tie s = state (pivotMatrix n j max-idx (s .l)) (s .e) (s .g) (pivotList 0 j max-idx (s .p)) (searched tie j (s .progress))
 
 -- the jth iteration of the factorization: it stores rows and columns j to n - 1
 unfoldable pub factorize : ℕ → ℕ → Run → Run
 unfolding eliminate blockFinite
 factorize n j s =
     let l = eliminate n j (s .l) in
-    record { l = l; e = s .e; g = s .g; p = s .p; delta-prev = s .delta-prev; tied = s .tied; phase2 = s .phase2; refused = mark (s .refused) (not (blockFinite n j l)) j }
+    state l (s .e) (s .g) (s .p) (stored (blockFinite n j l) j (s .progress))
 
 -- the step after its first test, with the pivot and whether its search was tied
 unfoldable pub stepAt : Variant → Tolerances → Float → ℕ → ℕ → ℕ → Bool → Run → Run
-unfolding pivot tmpOf leavesAfter factorize
+unfolding pivot leavesAfter factorize
 stepAt v t gamma n j max-idx tie s =
     let s₁ = pivot n j max-idx tie s in
     let next = factorize n j s₁ in
-    cond (leavesAfter v t gamma (tmpOf n j (s₁ .l))) (leave j s₁) next
+    cond (leavesAfter v t gamma n j (s₁ .l)) (leave j s₁) next
 
 unfoldable pub phaseOneStep : Variant → Tolerances → Float → ℕ → ℕ → Run → Run
-unfolding leavesBefore largest diagonalFrom stepAt
+unfolding leavesBefore pick diagonal stepAt
 phaseOneStep v t gamma n j s =
-    let f = largest false (diagonalFrom n (s .l) j) in
+    let f = pick false (diagonal n (s .l)) j in
     let next = stepAt v t gamma n j (f .index) (f .tied) s in
     cond (leavesBefore v t gamma n j (s .l)) (leave j s) next
 
@@ -131,7 +119,7 @@ unfoldable pub inPhaseOne : Variant → Tolerances → Float → ℕ → ℕ →
 unfolding phaseOneStep
 inPhaseOne v t gamma n j s =
     let next = phaseOneStep v t gamma n j s in
-    cond (marked (s .phase2) || marked (s .refused)) s next
+    cond (stopped (s .progress)) s next
 
 unfoldable pub phaseOne : Variant → Tolerances → Float → ℕ → Run → Run
 unfolding range inPhaseOne
@@ -139,14 +127,18 @@ phaseOne v t gamma n s = range 0 n (inPhaseOne v t gamma n) s
 
 -- ---- phase two
 
--- l.slice(..).map(|x| x.abs()).sum()
-unfoldable pub rowSum : ℕ → List Float → ℕ → ℕ → ℕ → Float
+-- l.slice(..).map(|x| x.abs()).sum(): the magnitudes at a to b - 1, in this order
+unfoldable pub magnitudeSum : (ℕ → Float) → ℕ → ℕ → Float
 unfolding range abs
-rowSum n l i a b = range a b (λ t sum. sum ⊕ abs (at n l i t)) plus-zero
+magnitudeSum entry a b = range a b (λ t sum. sum ⊕ abs (entry t)) plus-zero
+
+unfoldable pub rowSum : ℕ → List Float → ℕ → ℕ → ℕ → Float
+unfolding magnitudeSum
+rowSum n l i a b = magnitudeSum (λ t. at n l i t) a b
 
 unfoldable pub columnSum : ℕ → List Float → ℕ → ℕ → ℕ → Float
-unfolding range abs
-columnSum n l i a b = range a b (λ t sum. sum ⊕ abs (at n l t i)) plus-zero
+unfolding magnitudeSum
+columnSum n l i a b = magnitudeSum (λ t. at n l t i) a b
 
 -- g[i] = l[(i, i)] - l.slice(s![i, k..i]) .. - l.slice(s![(i + 1).., i]) ..
 unfoldable pub bounds : ℕ → ℕ → List Float → List Float → List Float
@@ -175,34 +167,41 @@ updateBounds n j l normj g =
     let next = range (j + 1) n (λ i h. set h i (getD h i nan ⊕ abs (at n l i j) ⊗ tmp)) g in
     cond (lt (one ⊗ epsilon) (abs (at n l j j ⊖ normj))) next g
 
--- the jth step of phase two with the pivot max_idx after j. It stores normj, e[j], the sum on the diagonal, g, and rows and columns j to n - 1.
+-- whether what a step of phase two stored is finite: normj, e[j], the sum on the diagonal, g after j, and rows and columns j to n - 1
+abbrev pub stepStored : ℕ → ℕ → Float → Float → Float → List Float → List Float → Bool
+stepStored n j normj ej sum g l = finite normj && finite ej && finite sum && all (j + 1) n (λ i. finite (getD g i nan)) && blockFinite n j l
+
+-- the jth step of phase two with the pivot max_idx after j
 unfoldable pub phaseTwoStepAt : Variant → Tolerances → Float → ℕ → ℕ → ℕ → Run → Run
 unfolding pivotMatrix pivotList columnSum amount updateBounds eliminate all blockFinite lt
 phaseTwoStepAt v t gamma n j max-idx s =
     let l₁ = pivotMatrix n j max-idx (s .l) in
     let g₁ = pivotList nan j max-idx (s .g) in
     let normj = columnSum n l₁ j (j + 1) n in
-    let ej = amount v t gamma (s .delta-prev) (at n l₁ j j) normj in
+    let ej = amount v t gamma (s .progress .«delta_prev») (at n l₁ j j) normj in
     let l₂ = put n l₁ j j (added (at n l₁ j j) ej) in
     let g₂ = updateBounds n j l₂ normj g₁ in
     let l₃ = eliminate n j l₂ in
-    record {
-      l = l₃;
-      e = set (s .e) j ej;
-      g = g₂;
-      p = pivotList 0 j max-idx (s .p);
-      delta-prev = cond (lt plus-zero ej) ej (s .delta-prev);
-      tied = s .tied;
-      phase2 = s .phase2;
-      refused = mark (s .refused) (not (finite normj && finite ej && finite (at n l₂ j j) && all (j + 1) n (λ i. finite (getD g₂ i nan)) && blockFinite n j l₃)) j;
-    }
+    state l₃ (set (s .e) j ej) g₂ (pivotList 0 j max-idx (s .p)) (stored (stepStored n j normj ej (at n l₂ j j) g₂ l₃) j (kept ej (s .progress)))
+
+-- its two halves between the pivot and the end, as the code hands them on: the addition, from l to l', and the rest
+pub record AmountAdded (v : Variant) (t : Tolerances) (gamma delta-prev : Float) (n j : ℕ) (l l' : List Float) (normj ej sum : Float) : Type 0 where
+  pub normj-is : normj ≡ columnSum n l j (j + 1) n
+  pub e-is : ej ≡ amount v t gamma delta-prev (at n l j j) normj
+  pub sum-is : sum ≡ added (at n l j j) ej
+  pub l-is : l' ≡ put n l j j sum
+
+pub record AddedEliminated (n j : ℕ) (normj ej sum : Float) (l g l' g' : List Float) (ok : Bool) : Type 0 where
+  pub g-is : g' ≡ updateBounds n j l normj g
+  pub l-is : l' ≡ eliminate n j l
+  pub ok-is : ok ≡ stepStored n j normj ej sum g' l'
 
 -- index_of_largest(&g.slice(s![j..])); nothing once the run is refused
 unfoldable pub phaseTwoStep : Variant → Tolerances → Float → ℕ → ℕ → Run → Run
-unfolding largest phaseTwoStepAt
+unfolding pick phaseTwoStepAt
 phaseTwoStep v t gamma n j s =
-    let next = phaseTwoStepAt v t gamma n j (largest false (drop j (s .g)) .index) s in
-    cond (marked (s .refused)) s next
+    let next = phaseTwoStepAt v t gamma n j (pick false (s .g) j .index) s in
+    cond (marked (s .progress .refused)) s next
 
 -- ---- the last block
 
@@ -221,10 +220,25 @@ pairOf v t gamma n l delta-prev =
     let x = eigenvaluesOf (at n l a a) (at n l a b) (at n l b a) (at n l b b) in
     Pair x (max (max plus-zero (lastAmount v t gamma x)) delta-prev)
 
--- SE99 with one row left: e[j] = -l[(j, j)] + (tau_bar * gamma).max(tau * (-l[(j, j)]) / (1.0 - tau))
-unfoldable pub oneOf : Tolerances → Float → Float → Last
-unfolding neg
-oneOf t gamma ljj = One (neg ljj ⊕ max (t .«tau_bar» ⊗ gamma) (t .tau ⊗ neg ljj ⊘ (one ⊖ t .tau)))
+-- one row remains, which SE99 alone can meet: e[j] = -l[(j, j)] + (tau_bar * gamma).max(tau * (-l[(j, j)]) / (1.0 - tau))
+unfoldable pub oneOf : Variant → Tolerances → Float → Float → Last
+unfolding leastAmount neg
+oneOf v t gamma ljj = One (neg ljj ⊕ max (leastAmount v t gamma) (t .tau ⊗ neg ljj ⊘ (one ⊖ t .tau)))
+
+-- the block of the last two rows is factorized, statement by statement
+abbrev pub rootAbove : ℕ → List Float → List Float
+rootAbove n l = put n l (n - 2) (n - 2) (sqrt (at n l (n - 2) (n - 2)))
+
+abbrev pub quotientBelow : ℕ → List Float → List Float
+quotientBelow n l = put n l (n - 1) (n - 2) (at n l (n - 1) (n - 2) ⊘ at n l (n - 2) (n - 2))
+
+abbrev pub rootBelow : ℕ → List Float → List Float
+rootBelow n l = put n l (n - 1) (n - 1) (sqrt (at n l (n - 1) (n - 1) ⊖ square (at n l (n - 1) (n - 2))))
+
+-- .. as the code hands it on, from l to l'; ok: whether what it stored is finite
+pub record PairFactorized (n : ℕ) (l l' : List Float) (ok : Bool) : Type 0 where
+  pub l-is : l' ≡ rootBelow n (quotientBelow n (rootAbove n l))
+  pub ok-is : ok ≡ (finite (at n (rootAbove n l) (n - 2) (n - 2)) && finite (at n (quotientBelow n (rootAbove n l)) (n - 1) (n - 2)) && finite (at n l' (n - 1) (n - 1)))
 
 -- the pair's amount is added to both rows, and the block is factorized: step n - 2
 unfoldable pub addPair : ℕ → Eigen → Float → Run → Run
@@ -234,19 +248,11 @@ addPair n x ea s =
     let b = n - 1 in
     let l₁ = put n (s .l) a a (added (at n (s .l) a a) ea) in
     let l₂ = put n l₁ b b (added (at n l₁ b b) ea) in
-    let l₃ = put n l₂ a a (sqrt (at n l₂ a a)) in
-    let l₄ = put n l₃ b a (at n l₃ b a ⊘ at n l₃ a a) in
-    let l₅ = put n l₄ b b (sqrt (at n l₄ b b ⊖ square (at n l₄ b a))) in
-    record {
-      l = l₅;
-      e = set (set (s .e) a ea) b ea;
-      g = s .g;
-      p = s .p;
-      delta-prev = s .delta-prev;
-      tied = s .tied;
-      phase2 = s .phase2;
-      refused = mark (s .refused) (not (finite (x .hi) && finite (x .lo) && finite ea && finite (at n l₂ a a) && finite (at n l₂ b b) && finite (at n l₃ a a) && finite (at n l₄ b a) && finite (at n l₅ b b))) a;
-    }
+    let l₃ = rootAbove n l₂ in
+    let l₄ = quotientBelow n l₃ in
+    let l₅ = rootBelow n l₄ in
+    let ok = finite (x .hi) && finite (x .lo) && finite ea && finite (at n l₂ a a) && finite (at n l₂ b b) && finite (at n l₃ a a) && finite (at n l₄ b a) && finite (at n l₅ b b) in
+    state l₅ (set (set (s .e) a ea) b ea) (s .g) (s .p) (stored ok a (s .progress))
 
 -- the one amount is added to the last row, and its root taken: step n - 1
 unfoldable pub addOne : ℕ → Float → Run → Run
@@ -255,16 +261,8 @@ addOne n ej s =
     let j = n - 1 in
     let l₁ = put n (s .l) j j (at n (s .l) j j ⊕ ej) in
     let l₂ = put n l₁ j j (sqrt (at n l₁ j j)) in
-    record {
-      l = l₂;
-      e = set (s .e) j ej;
-      g = s .g;
-      p = s .p;
-      delta-prev = s .delta-prev;
-      tied = s .tied;
-      phase2 = s .phase2;
-      refused = mark (s .refused) (not (finite ej && finite (at n l₁ j j) && finite (at n l₂ j j))) j;
-    }
+    let ok = finite ej && finite (at n l₁ j j) && finite (at n l₂ j j) in
+    state l₂ (set (s .e) j ej) (s .g) (s .p) (stored ok j (s .progress))
 
 -- what phase two adds last, by its cases
 abbrev pub addLast : ℕ → Last → Run → Run
@@ -278,31 +276,31 @@ rowsOf (Pair x ea) = 2
 
 unfoldable pub lastPair : Variant → Tolerances → Float → ℕ → Run → Run
 unfolding pairOf addPair
-lastPair v t gamma n s = addLast n (pairOf v t gamma n (s .l) (s .delta-prev)) s
+lastPair v t gamma n s = addLast n (pairOf v t gamma n (s .l) (s .progress .«delta_prev»)) s
 
-unfoldable pub lastOne : Tolerances → Float → ℕ → Run → Run
+unfoldable pub lastOne : Variant → Tolerances → Float → ℕ → Run → Run
 unfolding oneOf addOne
-lastOne t gamma n s = addLast n (oneOf t gamma (at n (s .l) (n - 1) (n - 1))) s
+lastOne v t gamma n s = addLast n (oneOf v t gamma (at n (s .l) (n - 1) (n - 1))) s
 
 -- phase two from step k: g counts as step k
 unfoldable pub begin : ℕ → ℕ → Run → Run
 unfolding bounds all
 begin n k s =
     let g = bounds n k (s .l) (s .g) in
-    record { l = s .l; e = s .e; g = g; p = s .p; delta-prev = s .delta-prev; tied = s .tied; phase2 = s .phase2; refused = mark (s .refused) (not (all k n (λ i. finite (getD g i nan)))) k }
+    state (s .l) (s .e) g (s .p) (stored (all k n (λ i. finite (getD g i nan))) k (s .progress))
 
 unfoldable pub pairs : Variant → Tolerances → Float → ℕ → ℕ → Run → Run
 unfolding range begin phaseTwoStep lastPair
 pairs v t gamma n k s =
     let s₁ = range k (n - 2) (phaseTwoStep v t gamma n) (begin n k s) in
     let next = lastPair v t gamma n s₁ in
-    cond (marked (s₁ .refused)) s₁ next
+    cond (marked (s₁ .progress .refused)) s₁ next
 
--- one row is left in SE99 where phase one is left at n - 1
+-- one row is left where phase one is left at n - 1
 unfoldable pub phaseTwoFrom : Variant → Tolerances → Float → ℕ → ℕ → Run → Run
 unfolding pairs lastOne
 phaseTwoFrom v t gamma n k s =
-    let one-left = lastOne t gamma n s in
+    let one-left = lastOne v t gamma n s in
     let more = pairs v t gamma n k s in
     cond (eqb k (n - 1)) one-left more
 
@@ -312,7 +310,7 @@ phaseTwoAfter v t gamma n Never s = s
 phaseTwoAfter v t gamma n (Step k) s = phaseTwoFrom v t gamma n k s
 
 abbrev pub phaseTwo : Variant → Tolerances → Float → ℕ → Run → Run
-phaseTwo v t gamma n s = phaseTwoAfter v t gamma n (s .phase2) s
+phaseTwo v t gamma n s = phaseTwoAfter v t gamma n (s .progress .phase2) s
 
 -- ---- a whole run
 unfoldable pub run : Variant → Tolerances → ℕ → List Float → Run
@@ -323,4 +321,4 @@ unfoldable pub mod-cholesky-se : Variant → Tolerances → ℕ → List Float �
 unfolding run lowerTriangle reorder
 mod-cholesky-se v t n a =
     let s = run v t n a in
-    handBack n (s .tied) (s .phase2) (s .refused) (lowerTriangle n (s .l)) (reorder n (s .p) (s .e)) (s .p)
+    handBack n (s .progress) (lowerTriangle n (s .l)) (reorder n (s .p) (s .e)) (s .p)

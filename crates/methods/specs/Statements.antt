@@ -1,8 +1,8 @@
 -- Statements that the methods share, each beside the Rust it stands for.
 use mathlib.Core.List.{List}
 use mathlib.Core.Bool.{Bool, cond}
-use Prim.Native.Nat.{ℕ, _+_, _-_, _*_}
-use lib.ListN.{getD, set}
+use Prim.Native.Nat.{ℕ, _+_, _-_}
+use lib.ListN.{getD, set, drop}
 use lib.Dec.{eqb}
 use lib.Ieee.{Float, nan, lt}
 use lib.Ieee.Scale.{finite}
@@ -11,8 +11,10 @@ use Rattle.arithmetic.specs.Double.{plus-zero, _⊖_, _⊗_, _⊘_, abs}
 use Rattle.arithmetic.specs.Loop.{range}
 use Rattle.arithmetic.specs.Sqrt.{sqrt}
 use Rattle.matrix.specs.Matrix.{at, put}
+use Rattle.matrix.specs.Search.{largest}
 use Rattle.matrix.specs.Table.{table}
 use Rattle.matrix.specs.Swap.{swap, swap-rows, swap-columns}
+use Rattle.matrix.specs.declared.utils.Found.{Found}
 
 -- ---- folds
 
@@ -30,10 +32,15 @@ unfoldable pub diagonalMax : ℕ → List Float → Float
 unfolding range foldDiagonal
 diagonalMax n m = range 0 n (foldDiagonal n m) plus-zero
 
--- m.diag().slice(s![j..])
-unfoldable pub diagonalFrom : ℕ → List Float → ℕ → List Float
+-- m.diag()
+unfoldable pub diagonal : ℕ → List Float → List Float
 unfolding table
-diagonalFrom n m j = table (n - j) (λ i. at n m (j + i) (j + i))
+diagonal n m = table n (λ i. at n m i i)
+
+-- ---- the pivot search of all three methods and of both phases: index_of_largest(&values.slice(s![j..])), by magnitude in GMW81
+unfoldable pub pick : Bool → List Float → ℕ → Found
+unfolding largest
+pick magnitude values j = largest magnitude (drop j values)
 
 -- ---- pivots: nothing where max_idx is 0
 

@@ -1,5 +1,4 @@
 // Values of SE90 and SE99.
-use crate::decomposition::Mark;
 use matrix::utils::Eigen;
 
 // The two methods of Schnabel and Eskow.
@@ -13,14 +12,6 @@ pub struct Tolerances {
     pub tau: f64,
     pub tau_bar: f64,
     pub mu: f64,
-}
-
-// What a run holds beside its lists.
-pub struct Progress {
-    pub delta_prev: f64,
-    pub tied: Mark,
-    pub phase2: Mark,
-    pub refused: Mark,
 }
 
 // What phase two adds last: one amount, or two eigenvalues with a shared amount.

@@ -1,59 +1,74 @@
-// What the factorization calls share: their checks, and what they hand back.
+// The factorization call: its checks, the run, and what it hands back.
 ghost use mathlib.Core.Path.{_≡_};
 ghost use Prim.Native.Nat.{_*_};
 ghost use lib.ListN.{length};
 ghost use Rattle.methods.specs.Result.{handBack, outcomeOf};
-ghost use Rattle.methods.specs.Calls.{call, answered, length-checks, factor-checks, numbered-call};
+ghost use Rattle.methods.specs.Calls.{call, answered, check-method, operand-checks, factor-checks, factor-call, Operands};
+ghost use Rattle.methods.specs.Factor.{factor, tolerances};
 ghost use Rattle.methods.specs.declared.decomposition.Mark.the-variants.{Never};
-use crate::gmw81::mod_cholesky_gmw81;
-use crate::se90::mod_cholesky_se90;
-use crate::se99::mod_cholesky_se99;
+use crate::gmw81;
+use crate::se;
 use arithmetic::outcome::Outcome;
 use matrix::checks;
 use matrix::entries::clear;
 use methods::decomposition::Decomposition;
 use methods::decomposition::Mark;
+use methods::method::Method;
+use methods::progress::Progress;
 use statements::count_up;
 
-pub fn factor_checks(a: &[f64], n: usize, l: usize, work: usize, e: usize, p: usize) -> Outcome
-    ensures { λ r. ⌜ r ≡ factor-checks n (now (a .entry)) l work e p ⌝ }
+// 2
+pub fn check_method(method: usize) -> Outcome
+    ensures { λ r. ⌜ r ≡ check-method method ⌝ }
 {
-    let lengths = length_checks(a, n, l, work, e, p);
-    if !lengths.complete() {
-        return lengths;
+    if method == 0 {
+        return Outcome::UnknownMethod;
     }
-    let entries = checks::check_finite(n, a);
+    if 3 < method {
+        return Outcome::UnknownMethod;
+    }
+    Outcome::Complete
+}
+
+// 2, 3, 4 and 5, on the lengths of the matrix and the buffers.
+fn operand_checks(
+    method: usize,
+    n: usize,
+    a: usize,
+    l: usize,
+    work: usize,
+    e: usize,
+    p: usize,
+) -> Outcome
+    ensures { λ r. ⌜ r ≡ operand-checks method n a l work e p ⌝ }
+{
+    check_method(method)
+        .then(checks::check_size(n))
+        .then(checks::check_matrix(n, a))
+        .then(checks::check_square_buffer(n, l))
+        .then(checks::check_square_buffer(n, work))
+        .then(checks::check_buffer(n, e))
+        .then(checks::check_buffer(n, p))
+}
+
+// .. then 7 and 8.
+fn factor_checks(
+    method: usize,
+    a: &[f64],
+    n: usize,
+    l: usize,
+    work: usize,
+    e: usize,
+    p: usize,
+) -> Outcome
+    ensures { λ r. ⌜ r ≡ factor-checks method n (now (a .entry)) l work e p ⌝ }
+{
+    let operands = operand_checks(method, n, a.len(), l, work, e, p);
+    let entries = operands.then(checks::check_finite(n, a));
     if !entries.complete() {
         return entries;
     }
     checks::check_symmetric(n, a)
-}
-
-// 3, 4 and 5.
-fn length_checks(a: &[f64], n: usize, l: usize, work: usize, e: usize, p: usize) -> Outcome
-    ensures { λ r. ⌜ r ≡ length-checks n (now (a .entry)) l work e p ⌝ }
-{
-    let size = checks::check_size(n);
-    if !size.complete() {
-        return size;
-    }
-    let matrix = checks::check_matrix(n, a.len());
-    if !matrix.complete() {
-        return matrix;
-    }
-    let factor = checks::check_buffer(n * n, l);
-    if !factor.complete() {
-        return factor;
-    }
-    let scratch = checks::check_buffer(n * n, work);
-    if !scratch.complete() {
-        return scratch;
-    }
-    let amounts = checks::check_buffer(n, e);
-    if !amounts.complete() {
-        return amounts;
-    }
-    checks::check_buffer(n, p)
 }
 
 // Refused before the first step.
@@ -83,13 +98,14 @@ pub fn hand_back(
     e: &mut [f64],
     p: &mut [usize],
     n: usize,
-    tied: Mark,
-    phase2: Mark,
-    refused: Mark,
+    r: Progress,
 ) -> Decomposition
     requires { ⌜ (length (now l) ≡ n * n) × (length (now work) ≡ n * n) × (length (now e) ≡ n) × (length (now p) ≡ n) ⌝ }
-    ensures { λ r. ⌜ call r (now (l .exit)) (now (work .exit)) (now (e .exit)) (now (p .exit)) ≡ answered n (handBack n tied phase2 refused (now (l .entry)) (now (e .entry)) (now (p .entry))) ⌝ }
+    ensures { λ d. ⌜ call d (now (l .exit)) (now (work .exit)) (now (e .exit)) (now (p .exit)) ≡ answered n (handBack n r (now (l .entry)) (now (e .entry)) (now (p .entry))) ⌝ }
 {
+    let tied = r.tied;
+    let phase2 = r.phase2;
+    let refused = r.refused;
     clear(work);
     if refused.marked() {
         clear(l);
@@ -103,9 +119,9 @@ pub fn hand_back(
     }
 }
 
-// A factorization by document 01's number of its method.
-pub fn factor(
-    number: usize,
+// A run on operands that passed the checks.
+pub fn run(
+    method: Method,
     a: &[f64],
     n: usize,
     l: &mut [f64],
@@ -113,19 +129,30 @@ pub fn factor(
     e: &mut [f64],
     p: &mut [usize],
 ) -> Decomposition
-    ensures { λ r. ⌜ call r (now (l .exit)) (now (work .exit)) (now (e .exit)) (now (p .exit)) ≡ numbered-call number n (now (a .entry)) (now (l .entry)) (now (work .entry)) (now (e .entry)) (now (p .entry)) ⌝ }
+    requires { ⌜ Operands n (now a) (length (now l)) (length (now work)) (length (now e)) (length (now p)) ⌝ }
+    ensures { λ r. ⌜ call r (now (l .exit)) (now (work .exit)) (now (e .exit)) (now (p .exit)) ≡ answered n (factor method tolerances n (now (a .entry))) ⌝ }
 {
-    if number == 0 {
-        return untouched(Outcome::UnknownMethod);
+    match method {
+        Method::Gmw81 => gmw81::run(a, n, l, work, e, p),
+        Method::Se(v) => se::run(v, a, n, l, work, e, p),
     }
-    if 3 < number {
-        return untouched(Outcome::UnknownMethod);
+}
+
+// The factorization call, by document 01's number of the method.
+pub fn factor(
+    method: usize,
+    a: &[f64],
+    n: usize,
+    l: &mut [f64],
+    work: &mut [f64],
+    e: &mut [f64],
+    p: &mut [usize],
+) -> Decomposition
+    ensures { λ r. ⌜ call r (now (l .exit)) (now (work .exit)) (now (e .exit)) (now (p .exit)) ≡ factor-call method n (now (a .entry)) (now (l .entry)) (now (work .entry)) (now (e .entry)) (now (p .entry)) ⌝ }
+{
+    let outcome = factor_checks(method, a, n, l.len(), work.len(), e.len(), p.len());
+    if !outcome.complete() {
+        return untouched(outcome);
     }
-    if number == 1 {
-        return mod_cholesky_gmw81(a, n, l, work, e, p);
-    }
-    if number == 2 {
-        return mod_cholesky_se90(a, n, l, work, e, p);
-    }
-    mod_cholesky_se99(a, n, l, work, e, p)
+    run(Method::of(method), a, n, l, work, e, p)
 }

@@ -1,20 +1,18 @@
 // What SE90 and SE99 share of phase one.
 ghost use mathlib.Core.Path.{_≡_};
 ghost use mathlib.Core.List.{List};
-ghost use mathlib.Core.Bool.{Bool, cond, not, _||_};
+ghost use mathlib.Core.Bool.{cond};
 ghost use Prim.Native.Nat.{ℕ, _+_, _*_, _<_};
 ghost use lib.ListN.{length};
 ghost use lib.Ieee.{Float, lt};
 ghost use Rattle.matrix.specs.Matrix.{Square};
-ghost use Rattle.methods.specs.Marks.{mark, marked};
 ghost use Rattle.methods.specs.Statements.{pivotMatrix, pivotList};
 ghost use Rattle.methods.specs.Elimination.{mirrored};
-ghost use Rattle.methods.specs.Se.{state, start, foldNext, tmpOf, aiiMax, aiiMin, leavesBefore, leavesAfter, leave, pivot, factorize, stepAt, phaseOneStep, phaseOne};
+ghost use Rattle.methods.specs.Se.{state, start, foldNext, tmpOf, aiiMax, aiiMin, leavesBefore, leavesAfter, factorize, stepAt, phaseOneStep, phaseOne};
 use arithmetic::double::square;
 use matrix::entries::clear;
 use matrix::entries::get;
-use methods::decomposition::Mark;
-use methods::schnabel_eskow::Progress;
+use methods::progress::Progress;
 use methods::schnabel_eskow::Tolerances;
 use methods::schnabel_eskow::Variant;
 
@@ -35,12 +33,7 @@ pub fn begin(
     clear(e);
     clear(g);
     statements::count_up(p);
-    Progress {
-        delta_prev: 0.0,
-        tied: Mark::Never,
-        phase2: Mark::Never,
-        refused: Mark::Never,
-    }
+    Progress::begun()
 }
 
 // ---- the tests
@@ -122,9 +115,12 @@ fn leaves_before(v: Variant, t: Tolerances, gamma: f64, l: &[f64], n: usize, j: 
 }
 
 // The test after search and swap.
-fn leaves_after(v: Variant, t: Tolerances, gamma: f64, tmp: f64) -> bool
-    ensures { λ r. ⌜ r ≡ leavesAfter v t gamma tmp ⌝ }
+fn leaves_after(v: Variant, t: Tolerances, gamma: f64, l: &[f64], n: usize, j: usize) -> bool
+    requires { ⌜ Square n (now l) ⌝ }
+    requires { ⌜ j < n ⌝ }
+    ensures { λ r. ⌜ r ≡ leavesAfter v t gamma n j (now (l .entry)) ⌝ }
 {
+    let tmp = tmp_of(l, n, j);
     match v {
         Variant::Se90 => tmp < t.tau * gamma,
         Variant::Se99 => tmp < -t.mu * gamma,
@@ -132,20 +128,6 @@ fn leaves_after(v: Variant, t: Tolerances, gamma: f64, tmp: f64) -> bool
 }
 
 // ---- a step
-
-fn leave(r: Progress, j: usize) -> Progress
-    ensures { λ q. ⌜ q ≡ record { «delta_prev» = r .«delta_prev»; tied = r .tied; phase2 = mark (r .phase2) Bool.true j; refused = r .refused } ⌝ }
-{
-    let phase2 = r.phase2;
-    let tied = r.tied;
-    let refused = r.refused;
-    Progress {
-        delta_prev: r.delta_prev,
-        tied,
-        phase2: phase2.mark(true, j),
-        refused,
-    }
-}
 
 // The pivot max_idx after j goes to j. From here on l holds a symmetric matrix on and below the diagonal.
 pub fn pivot(l: &mut [f64], p: &mut [usize], n: usize, j: usize, max_idx: usize)
@@ -174,34 +156,11 @@ fn step_at(
     ensures { λ q. ⌜ ((e g : List Float) → state (mirrored n (now (l .exit))) e g (now (p .exit)) q ≡ stepAt v t gamma n j «max_idx» tie (state (mirrored n (now (l .entry))) e g (now (p .entry)) r)) ⌝ }
 {
     pivot(l, p, n, j, max_idx);
-    let tied = r.tied;
-    let phase2 = r.phase2;
-    let refused = r.refused;
-    let pivoted = Progress {
-        delta_prev: r.delta_prev,
-        tied: tied.mark(tie, j),
-        phase2,
-        refused,
-    };
-    if leaves_after(v, t, gamma, tmp_of(l, n, j)) {
-        return leave(pivoted, j);
+    let pivoted = r.searched(tie, j);
+    if leaves_after(v, t, gamma, l, n, j) {
+        return pivoted.left(j);
     }
     factorize(l, n, j, pivoted)
-}
-
-// Marks step j as refused unless what it stored is finite.
-pub fn refuse_unless(ok: bool, j: usize, r: Progress) -> Progress
-    ensures { λ q. ⌜ q ≡ record { «delta_prev» = r .«delta_prev»; tied = r .tied; phase2 = r .phase2; refused = mark (r .refused) (not ok) j } ⌝ }
-{
-    let tied = r.tied;
-    let phase2 = r.phase2;
-    let refused = r.refused;
-    Progress {
-        delta_prev: r.delta_prev,
-        tied,
-        phase2,
-        refused: refused.mark(!ok, j),
-    }
 }
 
 // The jth iteration of the factorization.
@@ -211,7 +170,7 @@ fn factorize(l: &mut [f64], n: usize, j: usize, r: Progress) -> Progress
     ensures { λ q. ⌜ ((e g : List Float) (p : List ℕ) → state (mirrored n (now (l .exit))) e g p q ≡ factorize n j (state (mirrored n (now (l .entry))) e g p r)) ⌝ }
 {
     let ok = statements::eliminate(l, n, j);
-    refuse_unless(ok, j, r)
+    r.stored(ok, j)
 }
 
 fn phase_one_step(
@@ -230,22 +189,10 @@ fn phase_one_step(
     ensures { λ q. ⌜ ((e g : List Float) → state (mirrored n (now (l .exit))) e g (now (p .exit)) q ≡ phaseOneStep v t gamma n j (state (mirrored n (now (l .entry))) e g (now (p .entry)) r)) ⌝ }
 {
     if leaves_before(v, t, gamma, l, n, j) {
-        return leave(r, j);
+        return r.left(j);
     }
     let f = statements::search_diagonal(false, l, n, j, diag);
     step_at(v, t, gamma, l, p, n, j, f.index, f.tied, r)
-}
-
-// Whether phase one was left or a step refused.
-fn stopped(r: Progress) -> bool
-    ensures { λ b. ⌜ b ≡ (marked (r .phase2) || marked (r .refused)) ⌝ }
-{
-    let phase2 = r.phase2;
-    let refused = r.refused;
-    if phase2.marked() {
-        return true;
-    }
-    refused.marked()
 }
 
 pub fn phase_one(
@@ -264,7 +211,7 @@ pub fn phase_one(
 {
     let mut q = r;
     for j in 0..n {
-        if stopped(q) {
+        if q.stopped() {
             return q;
         }
         q = phase_one_step(v, t, gamma, l, p, diag, n, j, q);

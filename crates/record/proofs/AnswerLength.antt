@@ -5,9 +5,9 @@ use Prim.Native.Nat.{ℕ, _+_, _*_, _≤_}
 use native.Mathlib.Omega.{arith}
 use lib.ListN.{length, length-append}
 use Rattle.arithmetic.specs.Outcome.{place, complete}
-use Rattle.matrix.proofs.Bijection.{is, holds, fails}
+use Rattle.arithmetic.proofs.Cases.{is, holds, fails}
 use Rattle.methods.specs.Result.{Result}
-use Rattle.record.specs.AnswerRecord.{marks-fields, factor-fields, place-field, answer-record}
+use Rattle.record.specs.AnswerRecord.{longestAnswer, marksFields, factorFields, placeField, answer-record}
 use Rattle.record.specs.Writing.{Fits}
 use Rattle.record.proofs.WriteFields.{length-marks, length-factor, length-place}
 
@@ -15,22 +15,22 @@ module _ (r : Result) where
   pub complete-length : complete (r .decomposition .outcome) ≡ true → length (answer-record r) ≡ 21 + length (r .p) + 8 * length (r .e) + 8 * length (r .l)
   unfolding answer-record
   complete-length c =
-      rw c (length-append (marks-fields (r .decomposition)) (factor-fields r) ∙ omega (arith, length-marks (r .decomposition), length-factor r))
+      rw c (length-append (marksFields (r .decomposition)) (factorFields (r .p) (r .e) (r .l)) ∙ omega (arith, length-marks (r .decomposition), length-factor (r .p) (r .e) (r .l)))
 
   pub refused-length : complete (r .decomposition .outcome) ≡ false → length (answer-record r) ≡ 17
   unfolding answer-record
   refused-length c =
       let at = place (r .decomposition .outcome) in
-      rw c (length-append (marks-fields (r .decomposition)) (place-field at) ∙ omega (arith, length-marks (r .decomposition), length-place at))
+      rw c (length-append (marksFields (r .decomposition)) (placeField at) ∙ omega (arith, length-marks (r .decomposition), length-place at))
 
   pub answer-length : (n : ℕ) → complete (r .decomposition .outcome) ≡ true → length (r .p) ≡ n → length (r .e) ≡ n → length (r .l) ≡ n * n
       → length (answer-record r) ≡ 21 + n + 8 * n + 8 * (n * n)
   answer-length n c p e l = complete-length c ∙ rw (p, e, l)
 
-  pub longest-answer : complete (r .decomposition .outcome) ≡ true → length (r .p) ≡ 48 → length (r .e) ≡ 48 → length (r .l) ≡ 2304 → length (answer-record r) ≡ 18885
+  pub longest-answer : complete (r .decomposition .outcome) ≡ true → length (r .p) ≡ 48 → length (r .e) ≡ 48 → length (r .l) ≡ 2304 → length (answer-record r) ≡ longestAnswer
   longest-answer c p e l = answer-length 48 c p e l
 
-  pub answer-fits : Fits r → length (answer-record r) ≤ 18885
+  pub answer-fits : Fits r → length (answer-record r) ≤ longestAnswer
   answer-fits f = elim (is (complete (r .decomposition .outcome))) [
     | holds c ↦ omega (arith, complete-length c)
     | fails c ↦ omega (arith, refused-length c)

@@ -5,16 +5,16 @@ use Prim.Native.Nat.{ℕ, zero, suc, _*_, _/_}
 use native.Mathlib.Omega.{arith}
 use lib.ListN.{length, length-append}
 use lib.Ieee.{Float, binary64, toBits}
-use Rattle.record.specs.Bytes.{bytes, content-of}
+use Rattle.record.specs.Bytes.{bytes, doubleBytes}
 
 pub length-bytes : (k v : ℕ) → length (bytes k v) ≡ k
 unfolding bytes
 length-bytes zero v = refl
 length-bytes (suc k) v = ap suc (length-bytes k (v / 256))
 
-pub length-content : (x : List Float) → length (content-of x) ≡ 8 * length x
-unfolding content-of
+pub length-content : (x : List Float) → length (doubleBytes x) ≡ 8 * length x
+unfolding doubleBytes
 length-content [] = refl
 length-content (x ∷ xs) =
-    length-append (bytes 8 (toBits binary64 x)) (content-of xs)
+    length-append (bytes 8 (toBits binary64 x)) (doubleBytes xs)
     ∙ omega (arith, length-bytes 8 (toBits binary64 x), length-content xs)

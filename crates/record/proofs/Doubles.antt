@@ -1,30 +1,27 @@
 -- Doubles read from bytes.
-use mathlib.Core.Path.{_≡_, sym, ap, _∙_}
+use mathlib.Core.Path.{_≡_, ap, _∙_}
 use mathlib.Core.List.{List}
 use mathlib.Core.Bool.{Bool, true, not}
-use Prim.Native.Nat.{ℕ, _+_, _*_, _/_, _≤_, _<_}
-use native.Mathlib.Numerals.{add-one}
-use native.Mathlib.Omega.{arith}
-use lib.ListN.{length, getD, take, drop, set}
-use lib.Seq.{take-suc, take-suc-set, take-all}
+use Prim.Native.Nat.{ℕ, _*_, _/_, _<_}
+use lib.ListN.{length, getD, take, drop}
 use lib.Dec.{T}
 use lib.Ieee.{Float, nan, binary64, ofBits, nanBits}
 use lib.Ieee.Scale.{finite}
-use Rattle.matrix.specs.Table.{length-table, getD-table}
+use Rattle.matrix.proofs.TableLaws.{length-table, getD-table}
 use Rattle.matrix.specs.Checks.{notFinite}
-use Rattle.record.specs.Bytes.{number, double, doubles}
+use Rattle.record.specs.Bytes.{lowFirst, double, doubles}
 use Rattle.record.proofs.Numbers.{bits-no-nan}
 
 pub doubles-length : (b : List ℕ) → length (doubles b) ≡ length b / 8
 unfolding doubles
 doubles-length b = length-table (length b / 8) (λ k. double (take 8 (drop (8 * k) b)))
 
-pub doubles-at : (b : List ℕ) (k : ℕ) (d : Float) → k < length b / 8 → getD (doubles b) k d ≡ ofBits binary64 (number (take 8 (drop (8 * k) b)))
+pub doubles-at : (b : List ℕ) (k : ℕ) (d : Float) → k < length b / 8 → getD (doubles b) k d ≡ ofBits binary64 (lowFirst (take 8 (drop (8 * k) b)))
 unfolding doubles double
 doubles-at b k d h = getD-table (length b / 8) (λ k. double (take 8 (drop (8 * k) b))) k d h
 
 -- ---- one double's pattern v
-module _ (b : List ℕ) (k v : ℕ) (h : k < length b / 8) (e : v ≡ number (take 8 (drop (8 * k) b))) where
+module _ (b : List ℕ) (k v : ℕ) (h : k < length b / 8) (e : v ≡ lowFirst (take 8 (drop (8 * k) b))) where
   pub pattern-is : ofBits binary64 v ≡ getD (doubles b) k nan
   pattern-is = rw (doubles-at b k nan h, e)
 
@@ -33,13 +30,3 @@ module _ (b : List ℕ) (k v : ℕ) (h : k < length b / 8) (e : v ≡ number (ta
 
   pub pattern-no-nan : finite (getD (doubles b) k nan) ≡ true → T (not (nanBits binary64 v))
   pattern-no-nan f = bits-no-nan v (ap finite pattern-is ∙ f)
-
--- ---- a buffer whose first k places are written
-module _ {A : Type 0} (d : A) (l new : List A) where
-  pub written-more : (k : ℕ) (x : A) → k < length l → length l ≡ length new → x ≡ getD new k d → take k l ≡ take k new → take (k + 1) (set l k x) ≡ take (k + 1) new
-  written-more k x h n e w =
-      let q : k < length new = omega arith in
-      rw (add-one, take-suc-set l k x h, take-suc new k d q, w, e)
-
-  pub written-is : (k : ℕ) → length l ≤ k → length l ≡ length new → take k l ≡ take k new → l ≡ new
-  written-is k h n w = sym (take-all k l h) ∙ w ∙ take-all k new (omega arith)

@@ -6,16 +6,17 @@ use Prim.Native.Nat.{ℕ, _≤_}
 use native.Mathlib.Omega.{arith}
 use borrow.Author.Tests.{ne-eqb}
 use lib.ListN.{length, length-append}
-use Rattle.arithmetic.specs.Outcome.{number, place, complete, complete-is}
+use Rattle.arithmetic.specs.Outcome.{number, place, complete}
+use Rattle.arithmetic.proofs.OutcomeLaws.{complete-is}
 use Rattle.arithmetic.specs.declared.outcome.Outcome.{Outcome}
 use Rattle.arithmetic.specs.declared.outcome.Outcome.the-variants.{Complete, MalformedRecord, UnknownMethod, SizeOutOfRange, MatrixLength, BufferLength, IndexOutOfRange, NotFinite, Unsymmetric, StoredNotFinite}
 use Rattle.methods.specs.Result.{Result}
 use Rattle.methods.specs.declared.decomposition.Mark.{Mark}
 use Rattle.methods.specs.declared.decomposition.Mark.the-variants.{Never, Step}
-use Rattle.record.specs.Bytes.{bytes, field, doubles, content-of}
-use Rattle.record.specs.AnswerRecord.{step-byte, marks-fields, factor-fields, place-field, answer-record}
+use Rattle.record.specs.Bytes.{bytes, field, doubles, doubleBytes}
+use Rattle.record.specs.AnswerRecord.{stepByte, marksFields, factorFields, placeField, answer-record}
 use Rattle.record.specs.Writing.{StepFits, Fits, result}
-use Rattle.record.specs.ReadBack.{Field, split, outcomeRead, markRead, resultRead, read-answer}
+use Rattle.record.specs.ReadBack.{Field, split, outcomeRead, markRead, resultRead, readAnswer}
 use Rattle.record.proofs.ByteLaws.{length-content}
 use Rattle.record.proofs.WriteFields.{length-marks}
 use Rattle.record.proofs.Reading.{AllDoubles, doubles-content}
@@ -27,10 +28,10 @@ fieldOf tag content = record { tag = tag; content = content }
 -- 11, 12, 13, then the rest
 abbrev pub withMarks : Result → List Field → List Field
 withMarks r rest =
-    fieldOf 0x11 (number (r .decomposition .outcome) ∷ []) ∷ fieldOf 0x12 (step-byte (r .decomposition .tied) ∷ []) ∷ fieldOf 0x13 (step-byte (r .decomposition .phase2) ∷ []) ∷ rest
+    fieldOf 0x11 (number (r .decomposition .outcome) ∷ []) ∷ fieldOf 0x12 (stepByte (r .decomposition .tied) ∷ []) ∷ fieldOf 0x13 (stepByte (r .decomposition .phase2) ∷ []) ∷ rest
 
 abbrev pub completeFields : Result → List Field
-completeFields r = withMarks r (fieldOf 0x14 (r .p) ∷ fieldOf 0x15 (content-of (r .e)) ∷ fieldOf 0x16 (content-of (r .l)) ∷ [])
+completeFields r = withMarks r (fieldOf 0x14 (r .p) ∷ fieldOf 0x15 (doubleBytes (r .e)) ∷ fieldOf 0x16 (doubleBytes (r .l)) ∷ [])
 
 abbrev pub refusedFields : Result → List Field
 refusedFields r = let at = place (r .decomposition .outcome) in withMarks r (fieldOf 0x17 (at .row ∷ at .column ∷ []) ∷ [])
@@ -40,18 +41,18 @@ joined a b c = append-assoc a b c ∙ ap (λ (x : List ℕ). a ++ (b ++ x)) (sym
 
 module _ (r : Result) where
   complete-join : complete (r .decomposition .outcome) ≡ true → answer-record r ≡ join (completeFields r)
-  unfolding answer-record marks-fields factor-fields join bytes
-  complete-join c = rw c (ap (λ (x : List ℕ). marks-fields (r .decomposition) ++ x) (joined (field 0x14 (r .p)) (field 0x15 (content-of (r .e))) (field 0x16 (content-of (r .l)))))
+  unfolding answer-record marksFields factorFields join bytes
+  complete-join c = rw c (ap (λ (x : List ℕ). marksFields (r .decomposition) ++ x) (joined (field 0x14 (r .p)) (field 0x15 (doubleBytes (r .e))) (field 0x16 (doubleBytes (r .l)))))
 
   refused-join : complete (r .decomposition .outcome) ≡ false → answer-record r ≡ join (refusedFields r)
-  unfolding answer-record marks-fields place-field join bytes
+  unfolding answer-record marksFields placeField join bytes
   refused-join c = rw c
 
   longer : 12 ≤ length (answer-record r)
   unfolding answer-record
   longer =
-      let rest = cond (complete (r .decomposition .outcome)) (factor-fields r) (place-field (place (r .decomposition .outcome))) in
-      omega (arith, length-append (marks-fields (r .decomposition)) rest, length-marks (r .decomposition))
+      let rest = cond (complete (r .decomposition .outcome)) (factorFields (r .p) (r .e) (r .l)) (placeField (place (r .decomposition .outcome))) in
+      omega (arith, length-append (marksFields (r .decomposition)) rest, length-marks (r .decomposition))
 
   -- the fields of a record that holds
   fields-of : (fs : List Field) → answer-record r ≡ join fs → Short fs → length fs ≤ 12 → split (length (answer-record r)) (answer-record r) ≡ fs
@@ -79,21 +80,21 @@ outcome-read (NotFinite row column) = refl
 outcome-read (Unsymmetric row column) = refl
 outcome-read (StoredNotFinite step) = refl
 
-mark-read : (m : Mark) → StepFits m → markRead (step-byte m) ≡ m
+mark-read : (m : Mark) → StepFits m → markRead (stepByte m) ≡ m
 mark-read Never h = refl
 mark-read (Step j) h = rw (ne-eqb j 0xff (λ e. omega (arith, h j refl)))
 
 -- ---- the theorems
 module _ (r : Result) (f : Fits r) where
-  pub read-complete : complete (r .decomposition .outcome) ≡ true → AllDoubles (r .e) → AllDoubles (r .l) → read-answer (answer-record r) ≡ r
-  unfolding read-answer
+  pub read-complete : complete (r .decomposition .outcome) ≡ true → AllDoubles (r .e) → AllDoubles (r .l) → readAnswer (answer-record r) ≡ r
+  unfolding readAnswer
   read-complete c de dl =
       let o : outcomeRead (number (r .decomposition .outcome)) 0 0 ≡ r .decomposition .outcome = rw (complete-is (r .decomposition .outcome) c) in
       ap resultRead (complete-fields r f c)
       ∙ rw (o, mark-read (r .decomposition .tied) (f .marks .0), mark-read (r .decomposition .phase2) (f .marks .1), doubles-content (r .e) de, doubles-content (r .l) dl)
 
-  pub read-refused : complete (r .decomposition .outcome) ≡ false → read-answer (answer-record r) ≡ result (r .decomposition) [] [] []
-  unfolding read-answer doubles
+  pub read-refused : complete (r .decomposition .outcome) ≡ false → readAnswer (answer-record r) ≡ result (r .decomposition) [] [] []
+  unfolding readAnswer doubles
   read-refused c =
       ap resultRead (refused-fields r f c)
       ∙ rw (outcome-read (r .decomposition .outcome), mark-read (r .decomposition .tied) (f .marks .0), mark-read (r .decomposition .phase2) (f .marks .1))

@@ -5,9 +5,9 @@ use Prim.Native.Nat.{ℕ, zero, suc, _≤_, _<_}
 use native.Mathlib.Omega.{arith}
 use lib.ListN.{length, take, drop}
 use lib.Seq.{take-append-seam, drop-append-seam}
-use Rattle.record.specs.Bytes.{number, bytes, field}
+use Rattle.record.specs.Bytes.{lowFirst, bytes, field}
 use Rattle.record.specs.ReadBack.{Field, split}
-use Rattle.record.proofs.Reading.{number-bytes}
+use Rattle.record.proofs.Numbers.{number-bytes}
 
 unfoldable pub join : List Field → List ℕ
 unfolding bytes
@@ -23,8 +23,8 @@ cut : (k t len : ℕ) (c rest : List ℕ) → len ≡ length c → record { tag 
 cut k t len c rest e = rw (e, take-append-seam, drop-append-seam)
 
 split-field : (k t : ℕ) (c rest : List ℕ) → length c < 65536 → split (suc k) (field t c ++ rest) ≡ record { tag = t; content = c } ∷ split k rest
-unfolding split number bytes
-split-field k t c rest h = cut k t (number (bytes 2 (length c))) c rest (number-bytes 2 (length c) h)
+unfolding split lowFirst bytes
+split-field k t c rest h = cut k t (lowFirst (bytes 2 (length c))) c rest (number-bytes 2 (length c) h)
 
 pub split-join : (fs : List Field) (k : ℕ) → Short fs → length fs ≤ k → split k (join fs) ≡ fs
 unfolding split join

@@ -11,28 +11,35 @@ use lib.Ieee.Scale.{finite}
 use Rattle.arithmetic.specs.Outcome.{place, complete}
 use Rattle.arithmetic.specs.declared.outcome.Outcome.{Outcome}
 use Rattle.arithmetic.specs.declared.outcome.Outcome.the-variants.{StoredNotFinite}
-use Rattle.matrix.specs.Matrix.{at, square-small}
-use Rattle.matrix.proofs.Bijection.{is, holds, fails}
+use Rattle.matrix.specs.Matrix.{at}
+use Rattle.matrix.proofs.CellLaws.{square-small}
+use Rattle.matrix.specs.Checks.{check-symmetric}
+use Rattle.arithmetic.proofs.Cases.{is, holds, fails}
+use Rattle.matrix.proofs.CheckLaws.{Accepted}
 use Rattle.methods.specs.Result.{Result, outcomeOf}
 use Rattle.methods.specs.Gmw81 as gmw
 use Rattle.methods.specs.Gmw81.{mod-cholesky-gmw81}
 use Rattle.methods.specs.Se as schnabel
 use Rattle.methods.specs.Se.{mod-cholesky-se}
-use Rattle.methods.specs.Factor.{Method, gmw81, se, factor, tolerances}
-use Rattle.methods.specs.Calls as calls
+use Rattle.methods.specs.Factor.{factor, tolerances}
+use Rattle.methods.specs.Calls.{methodOf}
+use Rattle.methods.specs.declared.method.Method.{Method}
+use Rattle.methods.specs.declared.method.Method.the-variants.{Gmw81, Se}
 use Rattle.methods.specs.declared.schnabel_eskow.Tolerances.{Tolerances}
 use Rattle.methods.specs.declared.decomposition.Mark.{Mark}
 use Rattle.methods.specs.declared.decomposition.Mark.the-variants.{Never, Step}
 use Rattle.results.specs.Results.{Sound, MarksBelow}
 use Rattle.results.proofs.Theorem.{results}
-use Rattle.record.specs.MatrixRecord.{sizeOf, methodOf, matrixOf, record-checks}
-use Rattle.record.specs.Record.{refused, result-of, answer}
+use Rattle.record.specs.Bytes.{doubles}
+use Rattle.record.specs.MatrixRecord.{request, entriesOf, request-checks, byte-checks}
+use Rattle.record.specs.AnswerRecord.{longestAnswer}
+use Rattle.record.specs.Record.{refused, resultOf, resultTo, answer}
 use Rattle.record.specs.Writing.{EachFinite, PlaceFits, Fits}
-use Rattle.record.proofs.Accepted.{checks-accepted}
-use Rattle.record.proofs.Symmetric.{matrix-accepted}
-use Rattle.record.proofs.Answers.{answer-complete, answer-refused}
+use Rattle.record.specs.declared.read.Request.{Request}
+use Rattle.record.proofs.Accepted.{request-accepted, matrix-accepted}
+use Rattle.record.proofs.Answers.{answer-request, bytes-refused}
 use Rattle.record.proofs.AnswerLength.{answer-fits}
-use Rattle.record.proofs.Places.{record-placed}
+use Rattle.record.proofs.Early.{symmetric-early, bytes-early, bytes-parts}
 
 entries-finite : (n : ℕ) (l : List Float) → 0 < n → length l ≡ n * n → ((i j : ℕ) → i < n → j < n → finite (at n l i j) ≡ true) → EachFinite l
 entries-finite n l np e h k q =
@@ -59,8 +66,8 @@ mark-placed n (Step j) h s = (omega (arith, s j refl), omega arith)
 run-placed : (method : Method) (t : Tolerances) (n : ℕ) (a : List Float) → n ≤ 48 → MarksBelow n (factor method t n a .decomposition)
     → PlaceFits (place (factor method t n a .decomposition .outcome))
 unfolding factor mod-cholesky-gmw81 mod-cholesky-se
-run-placed gmw81 t n a h s = mark-placed n (gmw.run n a .refused) h (s .refused-below)
-run-placed (se v) t n a h s = mark-placed n (schnabel.run v t n a .refused) h (s .refused-below)
+run-placed Gmw81 t n a h s = mark-placed n (gmw.run n a .progress .refused) h (s .refused-below)
+run-placed (Se v) t n a h s = mark-placed n (schnabel.run v t n a .progress .refused) h (s .refused-below)
 
 refused-fits : (o : Outcome) → PlaceFits (place o) → Fits (refused o)
 refused-fits o t = record {
@@ -77,23 +84,33 @@ refused-fits o t = record {
     never : (j : ℕ) → _≡_ {A = Mark} Never (Step j) → ⊥
     never j e = let z : _≡_ {A = ℕ} 0 1 = cc in omega arith
 
-module _ (b : List ℕ) where
-  run-fits : complete (record-checks b) ≡ true → Fits (factor (calls.methodOf (methodOf b)) tolerances (sizeOf b) (matrixOf b))
-  run-fits c =
-      let n = sizeOf b in
-      let a = matrixOf b in
-      let method = calls.methodOf (methodOf b) in
-      let A = matrix-accepted b (record { is = c }) in
-      let small : n ≤ 48 = checks-accepted b (record { is = c }) .0 .square .small in
-      let s = results method n a (A .0) (A .1) in
-      sound-fits n (factor method tolerances n a) (A .0) small s (run-placed method tolerances n a small (s .marks))
+module _ (r : Request) (entries : List ℕ) (h : Accepted (request-checks r entries)) where
+  run-fits : Accepted (check-symmetric (r .size) (doubles entries)) → Fits (factor (methodOf (r .method)) tolerances (r .size) (doubles entries))
+  run-fits k =
+      let n = r .size in
+      let a = doubles entries in
+      let method = methodOf (r .method) in
+      let L = request-accepted r entries h .0 in
+      let s = results method n a (L .some) (matrix-accepted r entries h k) in
+      sound-fits n (factor method tolerances n a) (L .some) (L .square .small) s (run-placed method tolerances n a (L .square .small) (s .marks))
 
-  pub result-fits : Fits (result-of b)
-  result-fits = elim (is (complete (record-checks b))) [
-    | holds c ↦ rw (answer-complete b c) (run-fits c)
-    | fails c ↦ rw (answer-refused b c) (refused-fits (record-checks b) (record-placed b))
+  pub request-fits : Fits (resultTo r entries)
+  unfolding resultTo
+  request-fits = elim (is (complete (check-symmetric (r .size) (doubles entries)))) [
+    | holds c ↦ rw c (run-fits (record { is = c }))
+    | fails c ↦ rw c (refused-fits (check-symmetric (r .size) (doubles entries)) (symmetric-early r entries (request-accepted r entries h .0) .placed))
   ]
 
-  pub answer-length-at-most : length (answer b) ≤ 18885
+module _ (b : List ℕ) where
+  pub bytes-fit : Fits (refused (byte-checks b))
+  bytes-fit = refused-fits (byte-checks b) (bytes-early b .placed)
+
+  result-fits : Fits (resultOf b)
+  result-fits = elim (is (complete (byte-checks b))) [
+    | holds c ↦ rw (answer-request b c) (request-fits (request b) (entriesOf b) (bytes-parts b (record { is = c })))
+    | fails c ↦ rw (bytes-refused b c) bytes-fit
+  ]
+
+  pub answer-length-at-most : length (answer b) ≤ longestAnswer
   unfolding answer
-  answer-length-at-most = answer-fits (result-of b) result-fits
+  answer-length-at-most = answer-fits (resultOf b) result-fits

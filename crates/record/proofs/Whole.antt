@@ -1,129 +1,136 @@
--- The record call, from its checks and the factorization call.
+-- The record call, from its checks, check 8 and the run.
 use mathlib.Core.Path.{_≡_, refl, sym, ap, _∙_}
 use mathlib.Core.List.{List, []}
 use mathlib.Core.Bool.{true, false, false≢true}
-use Prim.Native.Nat.{ℕ, _*_, _≤_}
+use Prim.Native.Nat.{ℕ, _+_, _*_, _≤_}
 use native.Mathlib.Omega.{arith}
-use borrow.Author.Tests.{le-leb, eq-eqb, ne-eqb, eqb-true}
-use lib.ListN.{length}
+use borrow.Author.Tests.{eq-eqb, ne-eqb, eqb-true}
+use lib.ListN.{length, getD}
 use lib.Seq.{length-take-le}
-use lib.Dec.{eqb}
-use lib.Ieee.{Float}
-use Rattle.arithmetic.specs.Outcome.{complete, place}
-use Rattle.matrix.specs.Checks.{check-finite, check-symmetric}
-use Rattle.matrix.proofs.CheckLaws.{Accepted, both-accepted, goes-on, size-passes, matrix-passes, buffer-passes}
-use Rattle.matrix.proofs.Bijection.{is, holds, fails}
-use Rattle.methods.specs.Result.{Result}
-use Rattle.methods.specs.Calls as calls
-use Rattle.methods.specs.Calls.{Call, call, answered, untouched, check-method, factor-checks, factor-call, numbered-call}
+use lib.Dec.{T, eqb}
+use lib.Ieee.{Float, nan, binary64, fits}
+use Rattle.arithmetic.specs.Outcome.{complete, place, _then_}
+use Rattle.arithmetic.specs.declared.outcome.Outcome.{Outcome}
+use Rattle.matrix.specs.Checks.{check-symmetric}
+use Rattle.matrix.proofs.CheckLaws.{Accepted, entries-accepted, symmetric-accepted}
+use Rattle.arithmetic.proofs.Cases.{is, holds, fails}
+use Rattle.methods.specs.Factor.{factor, tolerances}
+use Rattle.methods.specs.Calls.{Call, call, answered, methodOf, Operands}
+use Rattle.methods.specs.declared.method.Method.{Method}
 use Rattle.methods.specs.declared.decomposition.Decomposition.{Decomposition}
-use Rattle.record.specs.MatrixRecord.{sizeOf, methodOf, matrixOf, length-checks, byte-checks, record-checks}
-use Rattle.record.specs.AnswerRecord.{answer-record}
-use Rattle.record.specs.Record.{refused, result-of, answer, Written, written, Counts, record-call}
-use Rattle.record.specs.Writing.{over, MarksFit, PlaceFits, Fits, result}
-use Rattle.record.proofs.Accepted.{Lengths, bytes-accepted}
-use Rattle.record.proofs.Answers.{answer-complete, answer-refused}
+use Rattle.record.specs.Bytes.{doubles}
+use Rattle.record.specs.Cursor.{contentAt, walk}
+use Rattle.record.specs.MatrixRecord.{requestOf, request, entriesOf, check-record, request-checks, byte-checks}
+use Rattle.record.specs.AnswerRecord.{longestAnswer, answer-record}
+use Rattle.record.specs.Record.{refused, resultTo, Lent, requestCall, answer, Written, written, Counts, record-call}
+use Rattle.record.specs.Writing.{over, Front, MarksFit, PlaceFits, Fits, result}
+use Rattle.record.specs.declared.cursor.Cursor.{Cursor}
+use Rattle.record.specs.declared.read.Request.{Request}
+use Rattle.record.proofs.Accepted.{request-accepted}
+use Rattle.record.proofs.Answers.{answer-request, bytes-refused}
 use Rattle.record.proofs.WriteFields.{refused-alike}
 use Rattle.record.proofs.Over.{length-over}
-use Rattle.record.proofs.SoundFits.{result-fits, answer-length-at-most}
+use Rattle.record.proofs.SoundFits.{request-fits, bytes-fit, answer-length-at-most}
 
--- ---- the checks on bytes pass: 8 is left
-method-passes : (number : ℕ) → 1 ≤ number → number ≤ 3 → Accepted (check-method number)
-method-passes number low high = record { is = rw (le-leb 1 number low, le-leb number 3 high) }
+-- ---- check 8, then the run
+module _ (r : Request) (a l work e : List Float) (p : List ℕ) where
+  pub lent-operands : Lent (r .size) a (length l) (length work) (length e) (length p) → ((k : ℕ) → T (fits binary64 (getD a k nan))) → Accepted (check-symmetric (r .size) a)
+      → Operands (r .size) a (length l) (length work) (length e) (length p)
+  lent-operands L d h = record {
+    some = L .some;
+    square = L .square;
+    finite-entries = L .finite-entries;
+    symmetric = record { same = symmetric-accepted (r .size) a (λ i j p q. d (i * r .size + j)) h };
+    l-is = L .l-is;
+    work-is = L .work-is;
+    e-is = L .e-is;
+    p-is = L .p-is;
+  }
 
-module _ (b : List ℕ) (h : complete (byte-checks b) ≡ true) where
-  parts : Accepted (length-checks b) × Accepted (check-finite (sizeOf b) (matrixOf b))
-  parts = both-accepted (length-checks b) (check-finite (sizeOf b) (matrixOf b)) (record { is = h })
+  pub request-refused : (d : Decomposition) → complete (check-symmetric (r .size) a) ≡ false → d ≡ refused (check-symmetric (r .size) a) .decomposition → call d l work e p ≡ requestCall r a l work e p
+  unfolding requestCall
+  request-refused d h e = rw (h, e)
 
-  symmetric-left : record-checks b ≡ check-symmetric (sizeOf b) (matrixOf b)
-  unfolding record-checks
-  symmetric-left = sym (goes-on (parts .0) (goes-on (parts .1) refl))
+  pub request-ran : (method : Method) (x : Call) → Accepted (check-symmetric (r .size) a) → method ≡ methodOf (r .method) → x ≡ answered (r .size) (factor method tolerances (r .size) a) → x ≡ requestCall r a l work e p
+  unfolding requestCall
+  request-ran method x h em ex = ex ∙ rw (em, h .is)
 
-  module _ (l work e : List Float) (p : List ℕ) (l-is : length l ≡ sizeOf b * sizeOf b) (work-is : length work ≡ sizeOf b * sizeOf b) (e-is : length e ≡ sizeOf b) (p-is : length p ≡ sizeOf b) where
-    lengths-pass : Accepted (calls.length-checks (sizeOf b) (matrixOf b) (length l) (length work) (length e) (length p))
-    unfolding calls.length-checks
-    lengths-pass =
-        let n = sizeOf b in
-        let L : Lengths b = bytes-accepted b (record { is = h }) .0 in
-        record {
-          is = sym (ap complete (goes-on (size-passes n (L .some) (L .square .small)) (goes-on (matrix-passes n (length (matrixOf b)) (L .square .len))
-              (goes-on (buffer-passes (n * n) (length l) l-is) (goes-on (buffer-passes (n * n) (length work) work-is) (goes-on (buffer-passes n (length e) e-is) refl))))))
-              ∙ buffer-passes n (length p) p-is .is;
-        }
+-- what is lent to them
+pub lends : (r : Request) (entries : List ℕ) (a : List Float) (l work e p : ℕ) → Accepted (request-checks r entries) → a ≡ doubles entries
+    → l ≡ r .size * r .size → work ≡ r .size * r .size → e ≡ r .size → p ≡ r .size → Lent (r .size) a l work e p
+lends r entries a l work e p h reads el ew ee ep =
+    let A = request-accepted r entries h in
+    rw reads (record { some = A .0 .some; square = A .0 .square; finite-entries = entries-accepted (r .size) (doubles entries) (A .0 .square) (A .1); l-is = el; work-is = ew; e-is = ee; p-is = ep })
 
-    call-checks : factor-checks (sizeOf b) (matrixOf b) (length l) (length work) (length e) (length p) ≡ record-checks b
-    unfolding factor-checks
-    call-checks = sym (goes-on lengths-pass (goes-on (parts .1) refl)) ∙ sym symmetric-left
+-- ---- check 8 and the run, on lent buffers, give the result
+module _ (r : Request) (entries : List ℕ) (a l work e : List Float) (p : List ℕ) (d : Decomposition) (l′ work′ e′ : List Float) (p′ : List ℕ)
+    (reads : a ≡ doubles entries) (calls : call d l′ work′ e′ p′ ≡ requestCall r a l work e p) where
+  calls-it : call d l′ work′ e′ p′ ≡ requestCall r (doubles entries) l work e p
+  calls-it = rw reads at calls
 
-    call-method : numbered-call (methodOf b) (sizeOf b) (matrixOf b) l work e p ≡ factor-call (calls.methodOf (methodOf b)) (sizeOf b) (matrixOf b) l work e p
-    unfolding numbered-call
-    call-method = let L : Lengths b = bytes-accepted b (record { is = h }) .0 in rw (method-passes (methodOf b) (L .method-low) (L .method-high) .is)
-
-    call-complete : complete (record-checks b) ≡ true → numbered-call (methodOf b) (sizeOf b) (matrixOf b) l work e p ≡ answered (sizeOf b) (result-of b)
-    unfolding factor-call
-    call-complete c = call-method ∙ rw (call-checks, c, answer-complete b c)
-
-    call-refused : complete (record-checks b) ≡ false → numbered-call (methodOf b) (sizeOf b) (matrixOf b) l work e p ≡ untouched (record-checks b) l work e p
-    unfolding factor-call
-    call-refused c = call-method ∙ rw (call-checks, c)
-
-    module _ (d : Decomposition) (l′ work′ e′ : List Float) (p′ : List ℕ) (calls-it : call d l′ work′ e′ p′ ≡ numbered-call (methodOf b) (sizeOf b) (matrixOf b) l work e p) where
-      decomposition-is : d ≡ result-of b .decomposition
-      decomposition-is = elim (is (complete (record-checks b))) [
-        | holds c ↦ ap (λ (x : Call). x .decomposition) (calls-it ∙ call-complete c)
-        | fails c ↦ ap (λ (x : Call). x .decomposition) (calls-it ∙ call-refused c) ∙ sym (ap (λ (r : Result). r .decomposition) (answer-refused b c))
-      ]
-
-      result-is : complete (d .outcome) ≡ true → result d l′ e′ p′ ≡ result-of b
-      result-is o = elim (is (complete (record-checks b))) [
-        | holds c ↦ ap (λ (x : Call). result (x .decomposition) (x .l) (x .e) (x .p)) (calls-it ∙ call-complete c)
-        | fails c ↦ absurd (false≢true (sym c ∙ ap complete (sym (ap (λ (x : Call). x .decomposition .outcome) (calls-it ∙ call-refused c))) ∙ o))
-      ]
-
-      pub complete-answers : complete (d .outcome) ≡ true → Fits (result d l′ e′ p′) × (answer-record (result d l′ e′ p′) ≡ answer b)
-      unfolding answer
-      complete-answers o = (rw (result-is o) (result-fits b), ap answer-record (result-is o))
-
-      pub refused-answers : complete (d .outcome) ≡ false → (MarksFit d × PlaceFits (place (d .outcome))) × (answer-record (result d [] [] []) ≡ answer b)
-      unfolding answer
-      refused-answers o =
-          let r = result-of b in
-          ((rw decomposition-is (result-fits b .marks), rw decomposition-is (result-fits b .placed)), rw decomposition-is (refused-alike (r .decomposition) [] (r .l) [] (r .e) [] (r .p) (rw decomposition-is at o)))
-
--- ---- the checks on bytes refuse
-module _ (b : List ℕ) (h : complete (byte-checks b) ≡ false) where
-  bytes-refused : record-checks b ≡ byte-checks b
-  unfolding record-checks
-  bytes-refused = elim (is (complete (length-checks b))) [
-    | holds c ↦ rw (rw c at h, c)
-    | fails c ↦ rw c
+  decomposition-is : d ≡ resultTo r entries .decomposition
+  unfolding resultTo requestCall
+  decomposition-is = elim (is (complete (check-symmetric (r .size) (doubles entries)))) [
+    | holds c ↦ ap (λ (x : Call). x .decomposition) calls-it ∙ rw c
+    | fails c ↦ ap (λ (x : Call). x .decomposition) calls-it ∙ rw c
   ]
 
-  result-refused : result-of b ≡ refused (byte-checks b)
-  result-refused = answer-refused b (rw bytes-refused h) ∙ ap refused bytes-refused
+  result-is : complete (d .outcome) ≡ true → result d l′ e′ p′ ≡ resultTo r entries
+  unfolding resultTo requestCall
+  result-is o = elim (is (complete (check-symmetric (r .size) (doubles entries)))) [
+    | holds c ↦ ap (λ (x : Call). result (x .decomposition) (x .l) (x .e) (x .p)) calls-it ∙ rw c
+    | fails c ↦ absurd (false≢true (sym c ∙ (rw (decomposition-is, c) at o)))
+  ]
 
-  pub bytes-answer : (d : Decomposition) → d ≡ refused (byte-checks b) .decomposition
+  module _ (h : Accepted (request-checks r entries)) where
+    pub complete-answers : complete (d .outcome) ≡ true → Fits (result d l′ e′ p′) × (answer-record (result d l′ e′ p′) ≡ answer-record (resultTo r entries))
+    complete-answers o = (rw (result-is o) (request-fits r entries h), ap answer-record (result-is o))
+
+    pub refused-answers : complete (d .outcome) ≡ false → (MarksFit d × PlaceFits (place (d .outcome))) × (answer-record (result d [] [] []) ≡ answer-record (resultTo r entries))
+    refused-answers o =
+        let f = request-fits r entries h in
+        let t = resultTo r entries in
+        ((rw decomposition-is (f .marks), rw decomposition-is (f .placed)), rw decomposition-is (refused-alike (t .decomposition) [] (t .l) [] (t .e) [] (t .p) (rw decomposition-is at o)))
+
+-- ---- what is read off a walk over b
+module _ (b : List ℕ) (c : Cursor) (r : Request) (entries : List ℕ) (walks : c ≡ walk b) (reads : r ≡ requestOf b c) (part : entries ≡ contentAt b (r .entries)) where
+  pub request-read : r ≡ request b
+  unfolding request
+  request-read = reads ∙ rw walks
+
+  pub entries-read : entries ≡ entriesOf b
+  entries-read = part ∙ rw request-read
+
+  pub checks-made : (first rest o : Outcome) → first ≡ check-record (length b) c → rest ≡ request-checks r entries → o ≡ (first then rest) → o ≡ byte-checks b
+  unfolding byte-checks
+  checks-made first rest o ef er eo = eo ∙ rw (ef, er, walks, entries-read, request-read)
+
+-- ---- the checks on bytes decide
+module _ (b : List ℕ) where
+  pub bytes-answer : complete (byte-checks b) ≡ false → (d : Decomposition) → d ≡ refused (byte-checks b) .decomposition
       → ((complete (d .outcome) ≡ false) × (MarksFit d × PlaceFits (place (d .outcome)))) × (answer-record (result d [] [] []) ≡ answer b)
   unfolding answer
-  bytes-answer d e =
-      let f : Fits (refused (byte-checks b)) = rw result-refused at (result-fits b) in
-      rw e ((h, (f .marks, f .placed)), sym (ap answer-record result-refused))
+  bytes-answer h d e = let f = bytes-fit b in rw e ((h, (f .marks, f .placed)), sym (ap answer-record (bytes-refused b h)))
+
+  pub request-answer : complete (byte-checks b) ≡ true → answer-record (resultTo (request b) (entriesOf b)) ≡ answer b
+  unfolding answer
+  request-answer h = sym (ap answer-record (answer-request b h))
 
 -- ---- the call
 module _ (b out : List ℕ) where
-  returns-is : (length out ≡ 18885 → ⊥) → written 0 out ≡ record-call b out
+  returns-is : (length out ≡ longestAnswer → ⊥) → written 0 out ≡ record-call b out
   unfolding record-call
-  returns-is h = rw (ne-eqb (length out) 18885 h)
+  returns-is h = rw (ne-eqb (length out) longestAnswer h)
 
-  writes-is : (len : ℕ) (out′ : List ℕ) → length out ≡ 18885 → (out′ ≡ over out 0 (answer b)) × (len ≡ length (answer b)) → written len out′ ≡ record-call b out
+  writes-is : (len : ℕ) (out′ : List ℕ) → length out ≡ longestAnswer → Front (answer b) out out′ len → written len out′ ≡ record-call b out
   unfolding record-call
-  writes-is len out′ h w = rw (eq-eqb (length out) 18885 h, w .0, w .1)
+  writes-is len out′ h w = rw (eq-eqb (length out) longestAnswer h, w .0, w .1)
 
   call-counts : (len : ℕ) (out′ : List ℕ) → written len out′ ≡ record-call b out → Counts len out′
   unfolding record-call
-  call-counts len out′ w = elim (is (eqb (length out) 18885)) [
+  call-counts len out′ w = elim (is (eqb (length out) longestAnswer)) [
     | holds t ↦
-        let e : length out ≡ 18885 = eqb-true (length out) 18885 t in
+        let e : length out ≡ longestAnswer = eqb-true (length out) longestAnswer t in
         let c : written len out′ ≡ written (length (answer b)) (over out 0 (answer b)) = rw t at w in
         let n : len ≡ length (answer b) = ap (λ (x : Written). x .len) c in
         let o : length out′ ≡ length out = ap (λ (x : Written). length (x .out)) c ∙ length-over out 0 (answer b) (omega (arith, answer-length-at-most b)) in
@@ -132,8 +139,8 @@ module _ (b out : List ℕ) where
     | fails t ↦ let c : written len out′ ≡ written 0 out = rw t at w in let n : len ≡ 0 = ap (λ (x : Written). x .len) c in rw n (omega arith, refl)
   ]
 
-  pub call-returns : (length out ≡ 18885 → ⊥) → (written 0 out ≡ record-call b out) × Counts 0 out
+  pub call-returns : (length out ≡ longestAnswer → ⊥) → (written 0 out ≡ record-call b out) × Counts 0 out
   call-returns h = (returns-is h, call-counts 0 out (returns-is h))
 
-  pub call-writes : (len : ℕ) (out′ : List ℕ) → length out ≡ 18885 → (out′ ≡ over out 0 (answer b)) × (len ≡ length (answer b)) → (written len out′ ≡ record-call b out) × Counts len out′
+  pub call-writes : (len : ℕ) (out′ : List ℕ) → length out ≡ longestAnswer → Front (answer b) out out′ len → (written len out′ ≡ record-call b out) × Counts len out′
   call-writes len out′ h w = (writes-is len out′ h w, call-counts len out′ (writes-is len out′ h w))

@@ -7,7 +7,7 @@ use native.Mathlib.Omega.{arith}
 use lib.ListN.{length, set, drop, getD, length-drop, drop-of-length-le}
 use lib.Seq.{drop-cons}
 use lib.Ieee.{Float, nan, binary64, toBits}
-use Rattle.record.specs.Bytes.{bytes, content-of}
+use Rattle.record.specs.Bytes.{bytes, doubleBytes}
 use Rattle.record.specs.Writing.{over}
 use Rattle.record.proofs.ByteLaws.{length-bytes, length-content}
 use Rattle.record.proofs.Over.{over-none, over-more, over-rest}
@@ -34,17 +34,17 @@ pub order-end : (out all p : List ℕ) (at k : ℕ) → length p ≤ k → over 
 order-end out all p at k h e = sym (over-none out (at + k)) ∙ (rw (drop-of-length-le p h) at e)
 
 pub doubles-turn : (out out′ all : List ℕ) (x : List Float) (next next′ k : ℕ)
-    → (out′ ≡ over out next (bytes 8 (toBits binary64 (getD x k nan)))) × (next′ ≡ next + 8) → over out next (content-of (drop k x)) ≡ all
-    → k < length x → next + 8 * (length x - k) ≤ length out → over out′ next′ (content-of (drop (k + 1) x)) ≡ all
-unfolding content-of
+    → (out′ ≡ over out next (bytes 8 (toBits binary64 (getD x k nan)))) × (next′ ≡ next + 8) → over out next (doubleBytes (drop k x)) ≡ all
+    → k < length x → next + 8 * (length x - k) ≤ length out → over out′ next′ (doubleBytes (drop (k + 1) x)) ≡ all
+unfolding doubleBytes
 doubles-turn out out′ all x next next′ k w e h f =
     let first = bytes 8 (toBits binary64 (getD x k nan)) in
-    let rest = content-of (drop (suc k) x) in
+    let rest = doubleBytes (drop (suc k) x) in
     let b : length first ≡ 8 = length-bytes 8 (toBits binary64 (getD x k nan)) in
     let c : length rest ≡ 8 * length (drop (suc k) x) = length-content (drop (suc k) x) in
     let m : over (over out next first) (next + 8) rest ≡ over out next (first ++ rest) = rw b at (over-more out next first rest (omega (arith, length-drop (suc k) x))) in
     rw (w .0, w .1, add-one k) (m ∙ (rw (drop-cons x k nan h) at e))
 
-pub doubles-end : (out all : List ℕ) (x : List Float) (next k : ℕ) → length x ≤ k → over out next (content-of (drop k x)) ≡ all → out ≡ all
-unfolding content-of
+pub doubles-end : (out all : List ℕ) (x : List Float) (next k : ℕ) → length x ≤ k → over out next (doubleBytes (drop k x)) ≡ all → out ≡ all
+unfolding doubleBytes
 doubles-end out all x next k h e = sym (over-none out next) ∙ (rw (drop-of-length-le x h) at e)

@@ -5,10 +5,10 @@ use lib.ListN.{length, take, drop}
 use lib.Ieee.{Float, binary64, ofBits, toBits}
 use Rattle.matrix.specs.Table.{table}
 
--- the number that bytes stand for
-unfoldable pub number : List ℕ → ℕ
-number [] = 0
-number (x ∷ xs) = x + 256 * number xs
+-- the number that bytes stand for, low byte first
+unfoldable pub lowFirst : List ℕ → ℕ
+lowFirst [] = 0
+lowFirst (x ∷ xs) = x + 256 * lowFirst xs
 
 -- the k lowest bytes of v
 unfoldable pub bytes : ℕ → ℕ → List ℕ
@@ -21,15 +21,15 @@ field tag content = tag ∷ bytes 2 (length content) ++ content
 
 -- the double that eight bytes stand for
 unfoldable pub double : List ℕ → Float
-unfolding number
-double xs = ofBits binary64 (number xs)
+unfolding lowFirst
+double xs = ofBits binary64 (lowFirst xs)
 
 -- content of eight bytes for each double
 unfoldable pub doubles : List ℕ → List Float
 unfolding table double
 doubles content = table (length content / 8) (λ k. double (take 8 (drop (8 * k) content)))
 
-unfoldable pub content-of : List Float → List ℕ
+unfoldable pub doubleBytes : List Float → List ℕ
 unfolding bytes
-content-of [] = []
-content-of (x ∷ xs) = bytes 8 (toBits binary64 x) ++ content-of xs
+doubleBytes [] = []
+doubleBytes (x ∷ xs) = bytes 8 (toBits binary64 x) ++ doubleBytes xs

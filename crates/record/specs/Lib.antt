@@ -1,4 +1,5 @@
 pub mod Bytes
+pub mod Cursor
 pub mod MatrixRecord
 pub mod AnswerRecord
 pub mod Writing

@@ -1,65 +1,80 @@
--- What a matrix record means: its fields, then the checks 1, 2, 3, 4, 7 and 8.
+-- What a matrix record means: the request that a walk over its fields finds, then the checks 1, 2, 3, 4, 7 and 8.
 use mathlib.Core.List.{List, [], _∷_, _++_}
-use mathlib.Core.Bool.{Bool, true, false, not, _&&_}
+use mathlib.Core.Bool.{Bool, not, _&&_}
 use Prim.Native.Nat.{ℕ, _*_}
-use lib.ListN.{length, getD, drop}
-use lib.Dec.{eqb, leb}
+use lib.ListN.{length, getD}
+use lib.Dec.{eqb, ltb}
 use lib.Ieee.{Float}
 use Rattle.arithmetic.specs.Outcome.{refuse, _then_}
 use Rattle.arithmetic.specs.declared.outcome.Outcome.{Outcome}
-use Rattle.arithmetic.specs.declared.outcome.Outcome.the-variants.{MalformedRecord, MatrixLength}
+use Rattle.arithmetic.specs.declared.outcome.Outcome.the-variants.{Complete, MalformedRecord, MatrixLength}
 use Rattle.matrix.specs.Checks.{check-size, check-finite, check-symmetric}
 use Rattle.methods.specs.Calls.{check-method}
 use Rattle.record.specs.Bytes.{bytes, field, doubles}
+use Rattle.record.specs.Cursor.{contentAt, walk}
+use Rattle.record.specs.declared.cursor.Cursor.{Cursor}
+use Rattle.record.specs.declared.cursor.Stage.{Stage}
+use Rattle.record.specs.declared.cursor.Stage.the-variants.{SizeDue, MethodDue, EntriesDue, Done, PastEnd, WrongTag}
+use Rattle.record.specs.declared.read.Request.{Request}
 
 -- 01 n, 02 method, 03 entries
 unfoldable pub matrix-record : ℕ → ℕ → List ℕ → List ℕ
 unfolding bytes
 matrix-record n method entries = field 0x01 (n ∷ []) ++ field 0x02 (method ∷ []) ++ field 0x03 entries
 
--- where n, the method and the entries stand in it
-abbrev pub sizeOf : List ℕ → ℕ
-sizeOf b = getD b 3 0
+-- ---- what a walk over b found
+abbrev pub requestOf : List ℕ → Cursor → Request
+requestOf b c = record { size = getD b (c .parts .size .start) 0; method = getD b (c .parts .method .start) 0; entries = c .parts .entries }
 
-abbrev pub methodOf : List ℕ → ℕ
-methodOf b = getD b 7 0
+unfoldable pub request : List ℕ → Request
+unfolding walk
+request b = requestOf b (walk b)
 
 abbrev pub entriesOf : List ℕ → List ℕ
-entriesOf b = drop 11 b
+entriesOf b = contentAt b (request b .entries)
 
-unfoldable pub same : List ℕ → List ℕ → Bool
-same [] [] = true
-same [] (y ∷ ys) = false
-same (x ∷ xs) [] = false
-same (x ∷ xs) (y ∷ ys) = eqb x y && same xs ys
+abbrev pub matrixOf : List ℕ → List Float
+matrixOf b = doubles (entriesOf b)
 
--- exactly the three fields, and at most 18,443 bytes: the record made of what stands in b is b
-unfoldable pub well-formed : List ℕ → Bool
-unfolding same matrix-record
-well-formed b = leb (length b) 18443 && same b (matrix-record (sizeOf b) (methodOf b) (entriesOf b))
+-- ---- 1: too long; a field that is cut off or has a wrong tag; a wrong length of 01 or 02, or bytes after the last field
+abbrev pub longestRecord : ℕ
+longestRecord = 18443
 
--- 1
-abbrev pub check-record : List ℕ → Outcome
-check-record b = refuse (not (well-formed b)) MalformedRecord
+abbrev pub check-longest : ℕ → Outcome
+check-longest len = refuse (ltb longestRecord len) MalformedRecord
 
+abbrev pub check-walk : Stage → Outcome
+check-walk SizeDue = MalformedRecord
+check-walk MethodDue = MalformedRecord
+check-walk EntriesDue = MalformedRecord
+check-walk Done = Complete
+check-walk (PastEnd field) = MalformedRecord
+check-walk (WrongTag field) = MalformedRecord
+
+abbrev pub exact : Cursor → ℕ → Bool
+exact c len = eqb (c .parts .size .len) 1 && (eqb (c .parts .method .len) 1 && eqb (c .at) len)
+
+abbrev pub check-exact : Cursor → ℕ → Outcome
+check-exact c len = refuse (not (exact c len)) MalformedRecord
+
+unfoldable pub check-record : ℕ → Cursor → Outcome
+check-record len c = check-longest len then check-walk (c .stage) then check-exact c len
+
+-- ---- 2, 3, 4 and 7, of a request and the bytes of its entries
 -- 4, in a record 8n² bytes
 abbrev pub check-entries : ℕ → ℕ → Outcome
 check-entries n len = refuse (not (eqb len (8 * (n * n)))) MatrixLength
 
--- 1, 2, 3, 4
-unfoldable pub length-checks : List ℕ → Outcome
-unfolding well-formed
-length-checks b = check-record b then check-method (methodOf b) then check-size (sizeOf b) then check-entries (sizeOf b) (length (entriesOf b))
+unfoldable pub request-checks : Request → List ℕ → Outcome
+unfolding doubles
+request-checks r entries =
+    check-method (r .method) then check-size (r .size) then check-entries (r .size) (length entries) then check-finite (r .size) (doubles entries)
 
--- the matrix of a record
-abbrev pub matrixOf : List ℕ → List Float
-matrixOf b = doubles (entriesOf b)
+-- ---- 1, 2, 3, 4, 7: what is checked on bytes; then 8
+unfoldable pub byte-checks : List ℕ → Outcome
+unfolding check-record request-checks request walk
+byte-checks b = check-record (length b) (walk b) then request-checks (request b) (entriesOf b)
 
--- .. then 7, on the entries' bytes
-abbrev pub byte-checks : List ℕ → Outcome
-byte-checks b = length-checks b then check-finite (sizeOf b) (matrixOf b)
-
--- 1, 2, 3, 4, 7, 8
 unfoldable pub record-checks : List ℕ → Outcome
-unfolding length-checks doubles
-record-checks b = length-checks b then check-finite (sizeOf b) (matrixOf b) then check-symmetric (sizeOf b) (matrixOf b)
+unfolding byte-checks request doubles
+record-checks b = byte-checks b then check-symmetric (request b .size) (matrixOf b)

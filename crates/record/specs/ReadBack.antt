@@ -9,7 +9,7 @@ use Rattle.arithmetic.specs.declared.outcome.Outcome.the-variants.{Complete, Ma
 use Rattle.methods.specs.Result.{Result}
 use Rattle.methods.specs.declared.decomposition.Mark.{Mark}
 use Rattle.methods.specs.declared.decomposition.Mark.the-variants.{Never, Step}
-use Rattle.record.specs.Bytes.{number, doubles}
+use Rattle.record.specs.Bytes.{lowFirst, doubles}
 
 pub record Field : Type 0 where
   pub tag : ℕ
@@ -17,10 +17,10 @@ pub record Field : Type 0 where
 
 -- the fields that bytes are, at most k
 unfoldable pub split : ℕ → List ℕ → List Field
-unfolding number
+unfolding lowFirst
 split zero b = []
 split (suc k) [] = []
-split (suc k) (tag ∷ b) = let len = number (take 2 b) in record { tag = tag; content = take len (drop 2 b) } ∷ split k (drop len (drop 2 b))
+split (suc k) (tag ∷ b) = let len = lowFirst (take 2 b) in record { tag = tag; content = take len (drop 2 b) } ∷ split k (drop len (drop 2 b))
 
 -- the content of the first field with a tag
 abbrev pub contentOf : ℕ → List Field → List ℕ
@@ -32,8 +32,8 @@ byteOf tag k fs = getD (contentOf tag fs) k 0
 
 -- what a refusal number and a place name
 abbrev pub outcomeRead : ℕ → ℕ → ℕ → Outcome
-outcomeRead number row column =
-    getD (Complete ∷ MalformedRecord ∷ UnknownMethod ∷ SizeOutOfRange ∷ MatrixLength ∷ BufferLength ∷ IndexOutOfRange row ∷ NotFinite row column ∷ Unsymmetric row column ∷ StoredNotFinite row ∷ []) number Complete
+outcomeRead refusal row column =
+    getD (Complete ∷ MalformedRecord ∷ UnknownMethod ∷ SizeOutOfRange ∷ MatrixLength ∷ BufferLength ∷ IndexOutOfRange row ∷ NotFinite row column ∷ Unsymmetric row column ∷ StoredNotFinite row ∷ []) refusal Complete
 
 abbrev pub markRead : ℕ → Mark
 markRead v = cond (eqb v 0xff) Never (Step v)
@@ -46,6 +46,6 @@ resultRead fs = record {
   p = contentOf 0x14 fs;
 }
 
-unfoldable pub read-answer : List ℕ → Result
+unfoldable pub readAnswer : List ℕ → Result
 unfolding split doubles
-read-answer b = resultRead (split (length b) b)
+readAnswer b = resultRead (split (length b) b)

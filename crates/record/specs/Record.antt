@@ -2,33 +2,38 @@
 use mathlib.Core.List.{List, []}
 use mathlib.Core.Bool.{cond}
 use mathlib.Core.Path.{_≡_}
-use Prim.Native.Nat.{ℕ, _≤_}
+use Prim.Native.Nat.{ℕ, _*_, _<_, _≤_}
 use lib.Dec.{eqb}
 use lib.ListN.{length, take}
+use lib.Ieee.{Float}
 use Rattle.arithmetic.specs.Outcome.{complete}
 use Rattle.arithmetic.specs.declared.outcome.Outcome.{Outcome}
+use Rattle.matrix.specs.Matrix.{Square}
+use Rattle.matrix.specs.Checks.{check-symmetric, AllFinite}
 use Rattle.methods.specs.Result.{Result}
 use Rattle.methods.specs.Factor.{factor, tolerances}
-use Rattle.methods.specs.Calls as calls
+use Rattle.methods.specs.Calls.{Call, methodOf, answered, untouched}
 use Rattle.methods.specs.declared.decomposition.Mark.the-variants.{Never}
-use Rattle.record.specs.MatrixRecord.{sizeOf, methodOf, matrixOf, record-checks}
-use Rattle.record.specs.AnswerRecord.{answer-record}
+use Rattle.record.specs.Bytes.{doubles}
+use Rattle.record.specs.MatrixRecord.{request, matrixOf, record-checks}
+use Rattle.record.specs.AnswerRecord.{longestAnswer, answer-record}
 use Rattle.record.specs.Writing.{over}
+use Rattle.record.specs.declared.read.Request.{Request}
 
 -- refused before the first step
 abbrev pub refused : Outcome → Result
 refused outcome = record { decomposition = record { outcome = outcome; tied = Never; phase2 = Never }; l = []; e = []; p = [] }
 
 -- what a record's checks and run end with
-unfoldable pub result-of : List ℕ → Result
-unfolding record-checks factor
-result-of b = cond (complete (record-checks b)) (factor (calls.methodOf (methodOf b)) tolerances (sizeOf b) (matrixOf b)) (refused (record-checks b))
+unfoldable pub resultOf : List ℕ → Result
+unfolding record-checks request factor doubles
+resultOf b = cond (complete (record-checks b)) (factor (methodOf (request b .method)) tolerances (request b .size) (matrixOf b)) (refused (record-checks b))
 
 unfoldable pub answer : List ℕ → List ℕ
-unfolding result-of answer-record
-answer b = answer-record (result-of b)
+unfolding resultOf answer-record
+answer b = answer-record (resultOf b)
 
--- what the record call hands back: the answer's length, and the buffer
+-- ---- what the record call hands back: the answer's length, and the buffer
 pub record Written : Type 0 where
   pub len : ℕ
   pub out : List ℕ
@@ -40,7 +45,36 @@ written len out = record { len = len; out = out }
 abbrev pub Counts : ℕ → List ℕ → Type 0
 Counts n out = (n ≤ length out) × (n ≡ length (take n out))
 
--- a buffer of another length than 18,885 stays as it is, and the length is 0
+-- a buffer of another length stays as it is, and the length is 0
 unfoldable pub record-call : List ℕ → List ℕ → Written
 unfolding answer over
-record-call b out = cond (eqb (length out) 18885) (written (length (answer b)) (over out 0 (answer b))) (written 0 out)
+record-call b out = cond (eqb (length out) longestAnswer) (written (length (answer b)) (over out 0 (answer b))) (written 0 out)
+
+-- ---- a request that passed the checks on bytes: check 8, then the run
+unfoldable pub resultTo : Request → List ℕ → Result
+unfolding factor doubles
+resultTo r entries =
+    let a = doubles entries in
+    let symmetric = check-symmetric (r .size) a in
+    cond (complete symmetric) (factor (methodOf (r .method)) tolerances (r .size) a) (refused symmetric)
+
+-- the lengths of a matrix of n rows, of L, work, e and p
+abbrev pub Buffers : ℕ → ℕ → ℕ → ℕ → ℕ → ℕ → Type 0
+Buffers n a l work e p = (a ≡ n * n) × (l ≡ n * n) × (work ≡ n * n) × (e ≡ n) × (p ≡ n)
+
+-- what is lent to it: rows of finite entries, and buffers of the lengths that go with them
+pub record Lent (n : ℕ) (a : List Float) (l work e p : ℕ) : Type 0 where
+  pub some : 0 < n
+  pub square : Square n a
+  pub finite-entries : AllFinite n a
+  pub l-is : l ≡ n * n
+  pub work-is : work ≡ n * n
+  pub e-is : e ≡ n
+  pub p-is : p ≡ n
+
+-- .. and what it does to the buffers
+unfoldable pub requestCall : Request → List Float → List Float → List Float → List Float → List ℕ → Call
+unfolding factor
+requestCall r a l work e p =
+    let symmetric = check-symmetric (r .size) a in
+    cond (complete symmetric) (answered (r .size) (factor (methodOf (r .method)) tolerances (r .size) a)) (untouched symmetric l work e p)

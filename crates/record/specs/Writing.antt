@@ -18,6 +18,14 @@ use Rattle.methods.specs.declared.decomposition.Mark.the-variants.{Step}
 unfoldable pub over : List ℕ → ℕ → List ℕ → List ℕ
 over out at xs = take at out ++ xs ++ drop (at + length xs) out
 
+-- xs now stands there from `at` on, and next is the position behind it
+abbrev pub Wrote : List ℕ → ℕ → List ℕ → List ℕ → ℕ → Type 0
+Wrote xs at out out′ next = (out′ ≡ over out at xs) × (next ≡ at + length xs)
+
+-- xs now stands at the front of the buffer, and len is its length
+abbrev pub Front : List ℕ → List ℕ → List ℕ → ℕ → Type 0
+Front xs out out′ len = (out′ ≡ over out 0 xs) × (len ≡ length xs)
+
 abbrev pub EachFinite : List Float → Type 0
 EachFinite x = (k : ℕ) → k < length x → finite (getD x k nan) ≡ true
 

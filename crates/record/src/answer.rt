@@ -1,37 +1,47 @@
 // The answer to a matrix record.
 ghost use mathlib.Core.Path.{_≡_};
 ghost use mathlib.Core.Bool.{true};
-ghost use Prim.Native.Nat.{_*_};
 ghost use lib.ListN.{length};
 ghost use Rattle.arithmetic.specs.Outcome.{complete};
-ghost use Rattle.methods.specs.Calls.{call, numbered-call};
-ghost use Rattle.record.specs.MatrixRecord.{sizeOf, methodOf, matrixOf, byte-checks};
-ghost use Rattle.record.specs.Record.{answer, written, record-call, Counts};
-ghost use Rattle.record.specs.Writing.{over};
+ghost use Rattle.methods.specs.Calls.{call};
+ghost use Rattle.record.specs.MatrixRecord.{request-checks};
+ghost use Rattle.record.specs.AnswerRecord.{longestAnswer, answer-record};
+ghost use Rattle.record.specs.Record.{Buffers, Lent, requestCall, resultTo, written, record-call, Counts};
+ghost use Rattle.record.specs.Writing.{Front};
+use crate::cursor;
 use crate::read;
+use crate::read::Request;
 use crate::write;
+use crate::write::LONGEST_ANSWER;
+use matrix::checks::check_symmetric;
 use methods::decomposition::Decomposition;
+use methods::method::Method;
 use modcholesky::calls;
 
-// The run on a record's matrix, which is read into a.
-fn factor_entries(
-    b: &[u8],
-    a: &mut [f64],
+// Check 8, then the run.
+fn factor_request(
+    r: Request,
+    a: &[f64],
     l: &mut [f64],
     work: &mut [f64],
     e: &mut [f64],
     p: &mut [usize],
 ) -> Decomposition
-    requires { ⌜ complete (byte-checks (now b)) ≡ true ⌝ }
-    requires { ⌜ length (now a) ≡ sizeOf (now b) * sizeOf (now b) ⌝ }
-    ensures { λ d. ⌜ call d (now (l .exit)) (now (work .exit)) (now (e .exit)) (now (p .exit)) ≡ numbered-call (methodOf (now (b .entry))) (sizeOf (now (b .entry))) (matrixOf (now (b .entry))) (now (l .entry)) (now (work .entry)) (now (e .entry)) (now (p .entry)) ⌝ }
+    requires { ⌜ Lent (r .size) (now a) (length (now l)) (length (now work)) (length (now e)) (length (now p)) ⌝ }
+    ensures { λ d. ⌜ call d (now (l .exit)) (now (work .exit)) (now (e .exit)) (now (p .exit)) ≡ requestCall r (now (a .entry)) (now (l .entry)) (now (work .entry)) (now (e .entry)) (now (p .entry)) ⌝ }
 {
-    read::read_doubles(&b[11..], a);
-    calls::factor(read::byte_at(b, 7), a, read::byte_at(b, 3), l, work, e, p)
+    let n = r.size;
+    let symmetric = check_symmetric(n, a);
+    if !symmetric.complete() {
+        return calls::untouched(symmetric);
+    }
+    calls::run(Method::of(r.method), a, n, l, work, e, p)
 }
 
+// The request's matrix is read into a.
 fn answer_entries(
-    b: &[u8],
+    r: Request,
+    entries: &[u8],
     out: &mut [u8],
     a: &mut [f64],
     l: &mut [f64],
@@ -39,12 +49,13 @@ fn answer_entries(
     e: &mut [f64],
     p: &mut [usize],
 ) -> usize
-    requires { ⌜ complete (byte-checks (now b)) ≡ true ⌝ }
-    requires { ⌜ length (now out) ≡ 18885 ⌝ }
-    requires { ⌜ (length (now a) ≡ sizeOf (now b) * sizeOf (now b)) × (length (now l) ≡ sizeOf (now b) * sizeOf (now b)) × (length (now work) ≡ sizeOf (now b) * sizeOf (now b)) × (length (now e) ≡ sizeOf (now b)) × (length (now p) ≡ sizeOf (now b)) ⌝ }
-    ensures { λ r. ⌜ (now (out .exit) ≡ over (now (out .entry)) 0 (answer (now (b .entry)))) × (r ≡ length (answer (now (b .entry)))) ⌝ }
+    requires { ⌜ complete (request-checks r (now entries)) ≡ true ⌝ }
+    requires { ⌜ length (now out) ≡ longestAnswer ⌝ }
+    requires { ⌜ Buffers (r .size) (length (now a)) (length (now l)) (length (now work)) (length (now e)) (length (now p)) ⌝ }
+    ensures { λ len. ⌜ Front (answer-record (resultTo r (now (entries .entry)))) (now (out .entry)) (now (out .exit)) len ⌝ }
 {
-    let d = factor_entries(b, a, l, work, e, p);
+    read::read_doubles(entries, a);
+    let d = factor_request(r, a, l, work, e, p);
     let outcome = d.outcome;
     if outcome.complete() {
         return write::write_complete(out, d, l, e, p);
@@ -52,20 +63,22 @@ fn answer_entries(
     write::write_refusal(out, d)
 }
 
-fn answer_accepted(b: &[u8], out: &mut [u8]) -> usize
-    requires { ⌜ complete (byte-checks (now b)) ≡ true ⌝ }
-    requires { ⌜ length (now out) ≡ 18885 ⌝ }
-    ensures { λ r. ⌜ (now (out .exit) ≡ over (now (out .entry)) 0 (answer (now (b .entry)))) × (r ≡ length (answer (now (b .entry)))) ⌝ }
+// The answer to a request that passed the checks on bytes.
+fn answer_request(r: Request, entries: &[u8], out: &mut [u8]) -> usize
+    requires { ⌜ complete (request-checks r (now entries)) ≡ true ⌝ }
+    requires { ⌜ length (now out) ≡ longestAnswer ⌝ }
+    ensures { λ len. ⌜ Front (answer-record (resultTo r (now (entries .entry)))) (now (out .entry)) (now (out .exit)) len ⌝ }
 {
     let mut a = [0.0; 2304];
     let mut l = [0.0; 2304];
     let mut work = [0.0; 2304];
     let mut e = [0.0; 48];
     let mut p = [0; 48];
-    let n = read::byte_at(b, 3);
+    let n = r.size;
     let m = n * n;
     answer_entries(
-        b,
+        r,
+        entries,
         out,
         &mut a[0..m],
         &mut l[0..m],
@@ -75,17 +88,20 @@ fn answer_accepted(b: &[u8], out: &mut [u8]) -> usize
     )
 }
 
-// Writes the answer into out, which must have 18,885 bytes, and returns its length.
+// Writes the answer into out, which must have LONGEST_ANSWER bytes, and returns its length.
 pub fn answer(b: &[u8], out: &mut [u8]) -> usize
     ensures { λ r. ⌜ written r (now (out .exit)) ≡ record-call (now (b .entry)) (now (out .entry)) ⌝ }
     ensures { λ r. ⌜ Counts r (now (out .exit)) ⌝ }
 {
-    if out.len() != 18885 {
+    if out.len() != LONGEST_ANSWER {
         return 0;
     }
-    let checks = read::byte_checks(b);
+    let c = cursor::walk(b);
+    let r = read::read_request(b, c);
+    let entries = cursor::content(b, r.entries);
+    let checks = read::check_record(b.len(), c).then(read::request_checks(r, entries));
     if !checks.complete() {
         return write::write_refusal(out, calls::untouched(checks));
     }
-    answer_accepted(b, out)
+    answer_request(r, entries, out)
 }

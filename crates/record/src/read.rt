@@ -1,17 +1,24 @@
-// Reading a matrix record: numbers and doubles from bytes, low byte first, and the checks made on bytes.
+// Reading a matrix record: its request, numbers and doubles from bytes, low byte first, and the checks made on bytes.
 ghost use mathlib.Core.Path.{_≡_};
 ghost use mathlib.Core.Bool.{true};
-ghost use mathlib.Core.List.{_∷_};
 ghost use Prim.Native.Nat.{ℕ, _+_, _*_, _<_, _≤_};
 ghost use lib.ListN.{length, getD, take, drop};
 ghost use lib.Ieee.{nan, binary64, ofBits};
 ghost use lib.Ieee.Scale.{finite};
 ghost use Rattle.matrix.specs.Checks.{check-finite, firstNotFinite};
-ghost use Rattle.methods.specs.Calls.{check-method};
-ghost use Rattle.record.specs.Bytes.{number, bytes, doubles};
-ghost use Rattle.record.specs.MatrixRecord.{same, well-formed, check-record, check-entries, length-checks, byte-checks};
+ghost use Rattle.record.specs.Bytes.{lowFirst, doubles};
+ghost use Rattle.record.specs.MatrixRecord.{requestOf, check-longest, check-walk, check-exact, check-record, check-entries, request-checks};
+use crate::cursor::Cursor;
+use crate::cursor::Part;
+use crate::cursor::Stage;
+use crate::cursor::byte_at;
 use arithmetic::outcome::Outcome;
+use matrix::checks::check_matrix;
 use matrix::checks::check_size;
+use matrix::checks::not_finite_at;
+use modcholesky::calls::check_method;
+
+// ---- numbers and doubles
 
 fn wide(x: u8) -> u64
     ensures { λ r. ⌜ r ≡ x ⌝ }
@@ -19,23 +26,10 @@ fn wide(x: u8) -> u64
     x as u64
 }
 
-fn whole(x: u8) -> usize
-    ensures { λ r. ⌜ r ≡ x ⌝ }
-{
-    x as usize
-}
-
-pub fn byte_at(b: &[u8], at: usize) -> usize
-    requires { ⌜ at < length (now b) ⌝ }
-    ensures { λ r. ⌜ r ≡ getD (now (b .entry)) at 0 ⌝ }
-{
-    whole(b[at])
-}
-
 // The number of the eight bytes from `at` on, read from the highest down.
 fn read_number(b: &[u8], at: usize) -> u64
     requires { ⌜ at + 8 ≤ length (now b) ⌝ }
-    ensures { λ r. ⌜ r ≡ number (take 8 (drop at (now (b .entry)))) ⌝ }
+    ensures { λ r. ⌜ r ≡ lowFirst (take 8 (drop at (now (b .entry)))) ⌝ }
 {
     let mut v: u64 = 0;
     for k in 0..8usize {
@@ -66,16 +60,12 @@ fn first_not_finite(b: &[u8]) -> usize
 }
 
 // 7
-pub fn check_finite(n: usize, b: &[u8]) -> Outcome
-    requires { ⌜ 0 < n ⌝ }
+fn check_finite(n: usize, b: &[u8]) -> Outcome
     ensures { λ r. ⌜ r ≡ check-finite n (doubles (now (b .entry))) ⌝ }
 {
     let k = first_not_finite(b);
     if k < b.len() / 8 {
-        return Outcome::NotFinite {
-            row: k / n,
-            column: k % n,
-        };
+        return not_finite_at(n, k);
     }
     Outcome::Complete
 }
@@ -91,100 +81,102 @@ pub fn read_doubles(b: &[u8], a: &mut [f64])
     }
 }
 
-// A field's tag and its length, low byte first, stand at `at`.
-fn is_head(b: &[u8], at: usize, tag: usize, len: usize) -> bool
-    requires { ⌜ at + 3 ≤ length (now b) ⌝ }
-    ensures { λ r. ⌜ r ≡ same (take 3 (drop at (now (b .entry)))) (tag ∷ bytes 2 len) ⌝ }
-{
-    if byte_at(b, at) != tag {
-        return false;
-    }
-    if byte_at(b, at + 1) != len % 256 {
-        return false;
-    }
-    byte_at(b, at + 2) == len / 256 % 256
+// ---- what a record asks for
+
+// Its size, its method's number, and where its entries stand.
+pub struct Request {
+    pub size: usize,
+    pub method: usize,
+    pub entries: Part,
 }
 
-pub fn well_formed(b: &[u8]) -> bool
-    ensures { λ r. ⌜ r ≡ well-formed (now (b .entry)) ⌝ }
+// What a walk over b found.
+pub fn read_request(b: &[u8], c: Cursor) -> Request
+    ensures { λ r. ⌜ r ≡ requestOf (now (b .entry)) c ⌝ }
 {
-    let len = b.len();
-    if 18443 < len {
-        return false;
+    let parts = c.parts;
+    let size = parts.size;
+    let method = parts.method;
+    let entries = parts.entries;
+    Request {
+        size: byte_at(b, size.start),
+        method: byte_at(b, method.start),
+        entries,
     }
-    if len < 11 {
-        return false;
-    }
-    if !is_head(b, 0, 0x01, 1) {
-        return false;
-    }
-    if !is_head(b, 4, 0x02, 1) {
-        return false;
-    }
-    is_head(b, 8, 0x03, len - 11)
 }
 
-// 1
-pub fn check_record(b: &[u8]) -> Outcome
-    ensures { λ r. ⌜ r ≡ check-record (now (b .entry)) ⌝ }
+// ---- 1
+
+const LONGEST_RECORD: usize = 18443;
+
+fn check_longest(len: usize) -> Outcome
+    ensures { λ r. ⌜ r ≡ check-longest len ⌝ }
 {
-    if !well_formed(b) {
+    if LONGEST_RECORD < len {
         return Outcome::MalformedRecord;
     }
     Outcome::Complete
 }
 
-// 2
-fn check_method(number: usize) -> Outcome
-    ensures { λ r. ⌜ r ≡ check-method number ⌝ }
+fn check_walk(stage: Stage) -> Outcome
+    ensures { λ r. ⌜ r ≡ check-walk stage ⌝ }
 {
-    if number == 0 {
-        return Outcome::UnknownMethod;
+    match stage {
+        Stage::Done => Outcome::Complete,
+        Stage::SizeDue => Outcome::MalformedRecord,
+        Stage::MethodDue => Outcome::MalformedRecord,
+        Stage::EntriesDue => Outcome::MalformedRecord,
+        Stage::PastEnd { field: _ } => Outcome::MalformedRecord,
+        Stage::WrongTag { field: _ } => Outcome::MalformedRecord,
     }
-    if 3 < number {
-        return Outcome::UnknownMethod;
+}
+
+// The fields 01 and 02 have one byte each, and nothing stands after the last field.
+fn check_exact(c: Cursor, len: usize) -> Outcome
+    ensures { λ r. ⌜ r ≡ check-exact c len ⌝ }
+{
+    let parts = c.parts;
+    let size = parts.size;
+    let method = parts.method;
+    if size.len != 1 {
+        return Outcome::MalformedRecord;
+    }
+    if method.len != 1 {
+        return Outcome::MalformedRecord;
+    }
+    if c.at != len {
+        return Outcome::MalformedRecord;
     }
     Outcome::Complete
 }
+
+pub fn check_record(len: usize, c: Cursor) -> Outcome
+    ensures { λ r. ⌜ r ≡ check-record len c ⌝ }
+{
+    let stage = c.stage;
+    check_longest(len)
+        .then(check_walk(stage))
+        .then(check_exact(c, len))
+}
+
+// ---- 2, 3, 4 and 7
 
 // 4
 fn check_entries(n: usize, len: usize) -> Outcome
-    requires { ⌜ n ≤ 48 ⌝ }
     ensures { λ r. ⌜ r ≡ check-entries n len ⌝ }
 {
-    if len != 8 * (n * n) {
+    if len % 8 != 0 {
         return Outcome::MatrixLength;
     }
-    Outcome::Complete
+    check_matrix(n, len / 8)
 }
 
-// 1, 2, 3 and 4.
-pub fn length_checks(b: &[u8]) -> Outcome
-    ensures { λ r. ⌜ r ≡ length-checks (now (b .entry)) ⌝ }
+pub fn request_checks(r: Request, entries: &[u8]) -> Outcome
+    ensures { λ o. ⌜ o ≡ request-checks r (now (entries .entry)) ⌝ }
 {
-    let fields = check_record(b);
-    if !fields.complete() {
-        return fields;
-    }
-    let method = check_method(byte_at(b, 7));
-    if !method.complete() {
-        return method;
-    }
-    let n = byte_at(b, 3);
-    let size = check_size(n);
-    if !size.complete() {
-        return size;
-    }
-    check_entries(n, b.len() - 11)
-}
-
-// 1, 2, 3, 4 and 7.
-pub fn byte_checks(b: &[u8]) -> Outcome
-    ensures { λ r. ⌜ r ≡ byte-checks (now (b .entry)) ⌝ }
-{
-    let lengths = length_checks(b);
-    if !lengths.complete() {
-        return lengths;
-    }
-    check_finite(byte_at(b, 3), &b[11..])
+    let n = r.size;
+    check_method(r.method)
+        .then(check_size(n))
+        .then(check_entries(n, entries.len()))
+        .then(check_finite(n, entries))
 }

@@ -6,13 +6,15 @@ ghost use Prim.Native.Nat.{_+_, _*_, _≤_, _<_};
 ghost use lib.ListN.{length};
 ghost use Rattle.arithmetic.specs.Outcome.{complete, place};
 ghost use Rattle.matrix.specs.Plain.{AllBelow};
-ghost use Rattle.methods.specs.declared.decomposition.Decomposition.{Decomposition};
-ghost use Rattle.record.specs.Bytes.{bytes, field, content-of};
-ghost use Rattle.record.specs.AnswerRecord.{step-byte, marks-fields, factor-fields, place-field, answer-record};
-ghost use Rattle.record.specs.Writing.{over, EachFinite, StepFits, MarksFit, PlaceFits, Fits, result};
+ghost use Rattle.record.specs.Bytes.{bytes, field, doubleBytes};
+ghost use Rattle.record.specs.AnswerRecord.{longestAnswer, stepByte, marksFields, factorFields, placeField, answer-record};
+ghost use Rattle.record.specs.Writing.{over, Wrote, Front, EachFinite, StepFits, MarksFit, PlaceFits, Fits, result};
 use arithmetic::outcome::Place;
 use methods::decomposition::Decomposition;
 use methods::decomposition::Mark;
+
+// A buffer of this length holds every answer.
+pub const LONGEST_ANSWER: usize = 18885;
 
 fn write_byte(out: &mut [u8], at: usize, v: u8) -> usize
     requires { ⌜ at < length (now out) ⌝ }
@@ -47,7 +49,7 @@ fn write_number(out: &mut [u8], at: usize, v: u64) -> usize
 fn write_doubles(out: &mut [u8], at: usize, x: &[f64]) -> usize
     requires { ⌜ at + 8 * length (now x) ≤ length (now out) ⌝ }
     requires { ⌜ EachFinite (now x) ⌝ }
-    ensures { λ r. ⌜ (now (out .exit) ≡ over (now (out .entry)) at (content-of (now (x .entry)))) × (r ≡ at + 8 * length (now (x .entry))) ⌝ }
+    ensures { λ r. ⌜ (now (out .exit) ≡ over (now (out .entry)) at (doubleBytes (now (x .entry)))) × (r ≡ at + 8 * length (now (x .entry))) ⌝ }
 {
     let n = x.len();
     let mut next = at;
@@ -60,7 +62,7 @@ fn write_doubles(out: &mut [u8], at: usize, x: &[f64]) -> usize
 fn write_order(out: &mut [u8], at: usize, p: &[usize]) -> usize
     requires { ⌜ at + length (now p) ≤ length (now out) ⌝ }
     requires { ⌜ AllBelow 256 (now p) ⌝ }
-    ensures { λ r. ⌜ (now (out .exit) ≡ over (now (out .entry)) at (now (p .entry))) × (r ≡ at + length (now (p .entry))) ⌝ }
+    ensures { λ r. ⌜ Wrote (now (p .entry)) at (now (out .entry)) (now (out .exit)) r ⌝ }
 {
     let n = p.len();
     for k in 0..n {
@@ -71,7 +73,7 @@ fn write_order(out: &mut [u8], at: usize, p: &[usize]) -> usize
 
 fn step_byte(m: Mark) -> u8
     requires { ⌜ StepFits m ⌝ }
-    ensures { λ r. ⌜ r ≡ step-byte m ⌝ }
+    ensures { λ r. ⌜ r ≡ stepByte m ⌝ }
 {
     match m {
         Mark::Never => 255,
@@ -91,7 +93,7 @@ fn write_byte_field(out: &mut [u8], at: usize, tag: u8, v: u8) -> usize
 fn write_doubles_field(out: &mut [u8], at: usize, tag: u8, x: &[f64]) -> usize
     requires { ⌜ (at + (3 + 8 * length (now x)) ≤ length (now out)) × (length (now x) ≤ 2304) ⌝ }
     requires { ⌜ EachFinite (now x) ⌝ }
-    ensures { λ r. ⌜ (now (out .exit) ≡ over (now (out .entry)) at (field tag (content-of (now (x .entry))))) × (r ≡ at + (3 + 8 * length (now (x .entry)))) ⌝ }
+    ensures { λ r. ⌜ (now (out .exit) ≡ over (now (out .entry)) at (field tag (doubleBytes (now (x .entry))))) × (r ≡ at + (3 + 8 * length (now (x .entry)))) ⌝ }
 {
     let next = write_head(out, at, tag, 8 * x.len());
     write_doubles(out, next, x)
@@ -109,7 +111,7 @@ fn write_order_field(out: &mut [u8], at: usize, tag: u8, p: &[usize]) -> usize
 fn write_marks(out: &mut [u8], d: Decomposition) -> usize
     requires { ⌜ 12 ≤ length (now out) ⌝ }
     requires { ⌜ MarksFit d ⌝ }
-    ensures { λ r. ⌜ (now (out .exit) ≡ over (now (out .entry)) 0 (marks-fields d)) × (r ≡ 12) ⌝ }
+    ensures { λ r. ⌜ (now (out .exit) ≡ over (now (out .entry)) 0 (marksFields d)) × (r ≡ 12) ⌝ }
 {
     let outcome = d.outcome;
     let tied = d.tied;
@@ -123,7 +125,7 @@ fn write_factor(out: &mut [u8], at: usize, p: &[usize], e: &[f64], l: &[f64]) ->
     requires { ⌜ at + 18873 ≤ length (now out) ⌝ }
     requires { ⌜ (length (now p) ≤ 48) × (length (now e) ≤ 48) × (length (now l) ≤ 2304) ⌝ }
     requires { ⌜ AllBelow 256 (now p) × EachFinite (now e) × EachFinite (now l) ⌝ }
-    ensures { λ r. ⌜ ((d : Decomposition) → (now (out .exit) ≡ over (now (out .entry)) at (factor-fields (result d (now (l .entry)) (now (e .entry)) (now (p .entry))))) × (r ≡ at + length (factor-fields (result d (now (l .entry)) (now (e .entry)) (now (p .entry)))))) ⌝ }
+    ensures { λ r. ⌜ Wrote (factorFields (now (p .entry)) (now (e .entry)) (now (l .entry))) at (now (out .entry)) (now (out .exit)) r ⌝ }
 {
     let amounts = write_order_field(out, at, 0x14, p);
     let factor = write_doubles_field(out, amounts, 0x15, e);
@@ -133,7 +135,7 @@ fn write_factor(out: &mut [u8], at: usize, p: &[usize], e: &[f64], l: &[f64]) ->
 fn write_place(out: &mut [u8], at: usize, place: Place) -> usize
     requires { ⌜ at + 5 ≤ length (now out) ⌝ }
     requires { ⌜ PlaceFits place ⌝ }
-    ensures { λ r. ⌜ (now (out .exit) ≡ over (now (out .entry)) at (place-field place)) × (r ≡ at + 5) ⌝ }
+    ensures { λ r. ⌜ (now (out .exit) ≡ over (now (out .entry)) at (placeField place)) × (r ≡ at + 5) ⌝ }
 {
     let row = write_head(out, at, 0x17, 2);
     let column = write_byte(out, row, place.row as u8);
@@ -141,9 +143,9 @@ fn write_place(out: &mut [u8], at: usize, place: Place) -> usize
 }
 
 pub fn write_complete(out: &mut [u8], d: Decomposition, l: &[f64], e: &[f64], p: &[usize]) -> usize
-    requires { ⌜ (length (now out) ≡ 18885) × (complete (d .outcome) ≡ true) ⌝ }
+    requires { ⌜ (length (now out) ≡ longestAnswer) × (complete (d .outcome) ≡ true) ⌝ }
     requires { ⌜ Fits (result d (now l) (now e) (now p)) ⌝ }
-    ensures { λ r. ⌜ (now (out .exit) ≡ over (now (out .entry)) 0 (answer-record (result d (now (l .entry)) (now (e .entry)) (now (p .entry))))) × (r ≡ length (answer-record (result d (now (l .entry)) (now (e .entry)) (now (p .entry))))) ⌝ }
+    ensures { λ r. ⌜ Front (answer-record (result d (now (l .entry)) (now (e .entry)) (now (p .entry)))) (now (out .entry)) (now (out .exit)) r ⌝ }
 {
     let next = write_marks(out, d);
     write_factor(out, next, p, e, l)
@@ -151,9 +153,9 @@ pub fn write_complete(out: &mut [u8], d: Decomposition, l: &[f64], e: &[f64], p:
 
 // A refusal has no L, e and p.
 pub fn write_refusal(out: &mut [u8], d: Decomposition) -> usize
-    requires { ⌜ (length (now out) ≡ 18885) × (complete (d .outcome) ≡ false) ⌝ }
+    requires { ⌜ (length (now out) ≡ longestAnswer) × (complete (d .outcome) ≡ false) ⌝ }
     requires { ⌜ MarksFit d × PlaceFits (place (d .outcome)) ⌝ }
-    ensures { λ r. ⌜ (now (out .exit) ≡ over (now (out .entry)) 0 (answer-record (result d [] [] []))) × (r ≡ length (answer-record (result d [] [] []))) ⌝ }
+    ensures { λ r. ⌜ Front (answer-record (result d [] [] [])) (now (out .entry)) (now (out .exit)) r ⌝ }
 {
     let next = write_marks(out, d);
     let outcome = d.outcome;

@@ -4,6 +4,7 @@ ghost use Prim.Native.Nat.{_<_, _≤_};
 ghost use Rattle.record.specs.Record.{Counts};
 use libc::STDOUT_FILENO;
 use record::answer::answer;
+use record::write::LONGEST_ANSWER;
 
 fn whole(x: u8) -> usize
     ensures { λ r. ⌜ r < 256 ⌝ }
@@ -32,7 +33,7 @@ fn read_part(fd: i32, len: usize, buf: &mut [u8]) -> usize
 }
 
 fn same_answer(input: &[u8], wanted: &[u8]) -> bool {
-    let mut out = [0; 18885];
+    let mut out = [0; LONGEST_ANSWER];
     let n = answer(input, &mut out);
     check::same(&out[..n], wanted)
 }
@@ -40,7 +41,7 @@ fn same_answer(input: &[u8], wanted: &[u8]) -> bool {
 // Whether the answer to the next record, of len bytes, is the oracle's.
 fn next_same(fd: i32, len: usize) -> bool {
     let mut input = [0; 18444];
-    let mut wanted = [0; 18885];
+    let mut wanted = [0; LONGEST_ANSWER];
     let n = read_part(fd, len, &mut input);
     let m = read_part(fd, read_length(fd), &mut wanted);
     same_answer(&input[..n], &wanted[..m])

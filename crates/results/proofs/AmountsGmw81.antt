@@ -1,47 +1,31 @@
 -- The amounts of GMW81: d[j] is at least c(j, j), so the difference is not negative.
-use mathlib.Core.Path.{_≡_, refl, sym, ap, subst}
-use mathlib.Core.Bool.{Bool, true, false, _&&_, true≢false}
+use mathlib.Core.Path.{_≡_, sym, ap, subst}
+use mathlib.Core.Bool.{Bool, true, false, _&&_}
 use mathlib.Core.List.{List}
-use Prim.Native.Nat.{ℕ, _+_, _*_, _<_}
+use Prim.Native.Nat.{ℕ, _+_, _<_}
 use native.Mathlib.Omega.{arith}
-use borrow.Author.Tests.{le-ltb}
-use lib.Ieee.{Float, nan, inf, fin, up, down, lt, isNan}
+use lib.Ieee.{Float, lt, isNan}
 use lib.Ieee.Scale.{finite}
 use Rattle.arithmetic.specs.All.{all}
 use Rattle.arithmetic.specs.Double.{plus-zero, _⊘_, square, abs, max}
-use Rattle.arithmetic.specs.Order.{and-2}
+use Rattle.arithmetic.proofs.OrderLaws.{and-2}
+use Rattle.arithmetic.proofs.Maximum.{abs-at-least, max-left, nan-is, none-below-nan}
+use Rattle.arithmetic.proofs.Difference.{sub-not-negative}
 use Rattle.matrix.specs.Matrix.{at}
 use Rattle.matrix.proofs.EntryLaws.{Entries}
-use Rattle.matrix.proofs.Bijection.{Is, is, holds, fails}
+use Rattle.arithmetic.proofs.Cases.{Is, is, holds, fails}
 use Rattle.methods.specs.Marks.{marked}
 use Rattle.methods.specs.Statements.{pivotMatrix}
-use Rattle.methods.specs.Gmw81.{Run, start, thetaOf, dOf, c₂Of, storedFinite, stepAt, finish, run, mod-cholesky-gmw81}
-use Rattle.methods.specs.Result.{filled}
+use Rattle.methods.specs.Gmw81.{Run, start, thetaOf, dOf, c₂Of, storedFinite, stepAt, finish, stepped, run}
 use Rattle.methods.specs.declared.decomposition.Mark.the-variants.{Never}
 use Rattle.methods.proofs.Moved.{pivot-entries}
 use Rattle.methods.proofs.GmwLaws.{started-is, step-at-is, finish-goes}
-use Rattle.methods.proofs.GmwRuns.{KeptBySteps, steps-keep, l₂Of, c₃Of, stepD, stepE, step-never, stepped, run-is, finish-never}
+use Rattle.methods.proofs.GmwRuns.{KeptBySteps, steps-keep, l₂Of, c₃Of, stepD, stepE, step-never, run-is, finish-never}
 use Rattle.methods.proofs.GmwSteps.{column-entries, diagonal-other, diagonal-entries, start-entries}
-use Rattle.results.specs.Results.{Amounts, AtLeast}
-use Rattle.results.proofs.Maximum.{max-left, none-below-nan}
-use Rattle.results.proofs.Difference.{sub-not-negative}
-use Rattle.results.proofs.AmountsLists.{zeros-amounts, set-amounts, reorder-amounts, filled-amounts}
+use Rattle.results.specs.Results.{Amounts}
+use Rattle.results.proofs.AmountsLists.{zeros-amounts, set-amounts, reorder-amounts}
 
 -- ---- d[j] is not less than c(j, j), also where c(j, j) is NaN
-abs-at-least : (x : Float) → isNan x ≡ false → AtLeast x (abs x)
-unfolding abs lt isNan
-abs-at-least nan h = absurd (true≢false h)
-abs-at-least (inf true) h = record { number = refl; not-less = refl }
-abs-at-least (inf false) h = record { number = refl; not-less = refl }
-abs-at-least (fin true m e) h = record { number = refl; not-less = refl }
-abs-at-least (fin false m e) h = record { number = refl; not-less = le-ltb (m * up e * down e) (m * up e * down e) (omega arith) }
-
-nan-is : (x : Float) → isNan x ≡ true → x ≡ nan
-unfolding isNan
-nan-is nan h = refl
-nan-is (inf s) h = absurd (true≢false (sym h))
-nan-is (fin s m e) h = absurd (true≢false (sym h))
-
 pub d-not-less : (cjj theta beta delta : Float) → lt (dOf cjj theta beta delta) cjj ≡ false
 d-not-less cjj theta beta delta = go (is (isNan cjj))
   where
@@ -58,7 +42,7 @@ stored-amount n j l c dj ej h =
 module _ (n : ℕ) (delta beta : Float) where
   record Kept (s : Run) : Type 0 where
     entries : Entries n (s .c)
-    amounts : s .refused ≡ Never → Amounts n (s .e)
+    amounts : s .progress .refused ≡ Never → Amounts n (s .e)
 
   kept-at : (j k : ℕ) (tie : Bool) (s : Run) → j < n → j + k < n → Kept s → Kept (stepAt n delta beta j k tie s)
   kept-at j k tie s pj pk K =
@@ -83,16 +67,11 @@ module _ (n : ℕ) (delta beta : Float) where
   start-kept a = record { entries = start-entries n a; amounts = λ r. rw started-is (zeros-amounts n) }
 
 -- ---- a whole run
-finish-amounts : (n : ℕ) (s : Run) → (s .refused ≡ Never → Amounts n (s .e)) → finish n s .refused ≡ Never → Amounts n (finish n s .e)
+finish-amounts : (n : ℕ) (s : Run) → (s .progress .refused ≡ Never → Amounts n (s .e)) → finish n s .progress .refused ≡ Never → Amounts n (finish n s .e)
 finish-amounts n s A r =
     let r' = finish-never n s r in
     rw (finish-goes n s (ap marked r')) (reorder-amounts n (s .p) (s .e) (A r'))
 
-handed-back : (n : ℕ) (a : List Float) → mod-cholesky-gmw81 n a .e ≡ filled (run n a .refused) n (run n a .e)
-unfolding mod-cholesky-gmw81
-handed-back n a = refl
-
-pub amounts-gmw81 : (n : ℕ) (a : List Float) → Amounts n (mod-cholesky-gmw81 n a .e)
-amounts-gmw81 n a = rw handed-back (filled-amounts (run n a .refused) n (run n a .e)
-    (subst (λ (x : Run). x .refused ≡ Never → Amounts n (x .e)) (sym (run-is n a))
-    (finish-amounts n (stepped n a) (steps-keep n _ _ (λ j s. Kept n _ _ s) (kept n _ _) a (start-kept n _ _ a) .amounts))))
+pub amounts-gmw81 : (n : ℕ) (a : List Float) → run n a .progress .refused ≡ Never → Amounts n (run n a .e)
+amounts-gmw81 n a = subst (λ (x : Run). x .progress .refused ≡ Never → Amounts n (x .e)) (sym (run-is n a))
+    (finish-amounts n (stepped n a) (steps-keep n _ _ (λ j s. Kept n _ _ s) (kept n _ _) a (start-kept n _ _ a) .amounts))

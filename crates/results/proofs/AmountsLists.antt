@@ -10,8 +10,8 @@ use lib.Seq.{getD-set-same, getD-set-other}
 use lib.Ieee.{Float, nan, lt}
 use lib.Ieee.Scale.{finite}
 use Rattle.arithmetic.specs.Double.{plus-zero}
-use Rattle.arithmetic.specs.Loop.{range-ind}
-use Rattle.arithmetic.specs.Order.{lt-irreflexive}
+use Rattle.arithmetic.proofs.LoopLaws.{range-ind}
+use Rattle.arithmetic.proofs.OrderLaws.{lt-irreflexive}
 use Rattle.matrix.specs.Matrix.{zeros}
 use Rattle.methods.specs.Statements.{reorder}
 use Rattle.methods.specs.Result.{filled}

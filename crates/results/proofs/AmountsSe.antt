@@ -5,14 +5,13 @@ use mathlib.Core.List.{List}
 use mathlib.Core.Logic.{inl, inr}
 use Prim.Native.Nat.{ℕ, _-_, _<_}
 use lib.ListN.{set}
-use lib.Ieee.{Float, lt, isNan, ofBits}
-use Rattle.arithmetic.specs.Double.{plus-zero, max}
+use lib.Ieee.{Float, lt}
+use Rattle.arithmetic.specs.Double.{plus-zero}
+use Rattle.arithmetic.proofs.Maximum.{max-not-negative}
 use Rattle.matrix.specs.Matrix.{at}
-use Rattle.methods.specs.Factor.{tolerances}
 use Rattle.methods.specs.Marks.{mark}
-use Rattle.methods.specs.Result.{filled}
 use Rattle.methods.specs.Statements.{diagonalMax, pivotMatrix, reorder}
-use Rattle.methods.specs.Se.{Run, start, tmpOf, leavesBefore, leavesAfter, pivot, factorize, amount, phaseTwoStepAt, pairOf, oneOf, addPair, addOne, addLast, lastPair, lastOne, begin, run, mod-cholesky-se}
+use Rattle.methods.specs.Se.{Run, start, leavesBefore, leavesAfter, pivot, factorize, amount, phaseTwoStepAt, pairOf, oneOf, addPair, addOne, addLast, lastPair, lastOne, begin, run}
 use Rattle.methods.specs.declared.decomposition.Mark.{Mark}
 use Rattle.methods.specs.declared.decomposition.Mark.the-variants.{Never, Step}
 use Rattle.methods.specs.declared.schnabel_eskow.Tolerances.{Tolerances}
@@ -21,16 +20,15 @@ use Rattle.methods.specs.declared.schnabel_eskow.Variant.the-variants.{Se90, Se
 use Rattle.methods.specs.declared.schnabel_eskow.Last.{Last}
 use Rattle.methods.specs.declared.schnabel_eskow.Last.the-variants.{One, Pair}
 use Rattle.methods.proofs.SeRuns.{Leaves, KeptInPhaseOne, KeptInPhaseTwo, run-keeps}
-use Rattle.load_order.proofs.Picks.{clash}
-use Rattle.results.specs.Results.{Amounts, AtLeast}
-use Rattle.results.proofs.Maximum.{at-least-self, max-left}
+use Rattle.methods.proofs.MarkLaws.{clash}
+use Rattle.results.specs.Results.{Amounts}
 use Rattle.results.proofs.SeTests.{factorize-never, begin-never, normAt, amountAt, step-tested, one-tested, pair-tested}
-use Rattle.results.proofs.AmountsLists.{zeros-amounts, set-amounts, reorder-amounts, filled-amounts}
-use Rattle.results.proofs.AmountsLast.{one-not-negative, last-stays}
+use Rattle.results.proofs.AmountsLists.{zeros-amounts, set-amounts, reorder-amounts}
+use Rattle.results.proofs.AmountsLast.{PositiveTolerances, one-not-negative, last-stays}
 
 -- what holds of e while the run is not refused
 abbrev Kept : ℕ → Run → Type 0
-Kept n s = s .refused ≡ Never → Amounts n (s .e)
+Kept n s = s .progress .refused ≡ Never → Amounts n (s .e)
 
 -- ---- phase one stores no amount; where it is left at n - 1, the test before the search passed there
 module _ (v : Variant) (t : Tolerances) (gamma : Float) (n : ℕ) where
@@ -39,7 +37,7 @@ module _ (v : Variant) (t : Tolerances) (gamma : Float) (n : ℕ) where
 
   record First (s : Run) : Type 0 where
     amounts : Kept n s
-    left : Left (s .phase2) (s .l)
+    left : Left (s .progress .phase2) (s .l)
 
   none-left : (m : Mark) (l : List Float) → m ≡ Never → Left m l
   none-left m l e k = clash m (n - 1) e k
@@ -47,7 +45,7 @@ module _ (v : Variant) (t : Tolerances) (gamma : Float) (n : ℕ) where
   -- the test after the search fails at n - 1
   before-search : (j : ℕ) (l : List Float) → Leaves v t gamma n j l → j ≡ n - 1 → leavesBefore v t gamma n (n - 1) l ≡ true
   before-search j l (inl e) q = subst (λ (x : ℕ). leavesBefore v t gamma n x l ≡ true) q e
-  before-search j l (inr e) q = absurd (false≢true (sym (last-stays v t gamma n l) ∙ subst (λ (x : ℕ). leavesAfter v t gamma (tmpOf n x l) ≡ true) q e))
+  before-search j l (inr e) q = absurd (false≢true (sym (last-stays v t gamma n l) ∙ subst (λ (x : ℕ). leavesAfter v t gamma n x l ≡ true) q e))
 
   left-at : (j : ℕ) (m : Mark) (l : List Float) → m ≡ Never → Leaves v t gamma n j l → Left (mark m true j) l
   left-at j m l e w k = before-search j l w (let e' : mark m true j ≡ Step j = rw e in cc)
@@ -55,9 +53,9 @@ module _ (v : Variant) (t : Tolerances) (gamma : Float) (n : ℕ) where
   kept-one : KeptInPhaseOne v t gamma n First
   unfolding pivot factorize
   kept-one = record {
-    by-leave = λ j s h m w F. record { amounts = F .amounts; left = left-at j (s .phase2) (s .l) m w };
-    by-pivot = λ j k tie s h hk m F. record { amounts = F .amounts; left = none-left (s .phase2) _ m };
-    by-factorize = λ j s h m F. record { amounts = λ r. F .amounts (factorize-never n j s r .before); left = none-left (s .phase2) _ m };
+    by-leave = λ j s h m w F. record { amounts = F .amounts; left = left-at j (s .progress .phase2) (s .l) m w };
+    by-pivot = λ j k tie s h hk m F. record { amounts = F .amounts; left = none-left (s .progress .phase2) _ m };
+    by-factorize = λ j s h m F. record { amounts = λ r. F .amounts (factorize-never n j s r .before); left = none-left (s .progress .phase2) _ m };
   }
 
   start-first : (a : List Float) → First (start n a)
@@ -65,13 +63,6 @@ module _ (v : Variant) (t : Tolerances) (gamma : Float) (n : ℕ) where
   start-first a = record { amounts = λ r. zeros-amounts n; left = none-left Never a refl }
 
 -- ---- amounts that begin as 0.0.max(..)
-zero-bound : AtLeast plus-zero plus-zero
-unfolding isNan ofBits
-zero-bound = at-least-self plus-zero refl
-
-max-not-negative : (x y : Float) → lt (max (max plus-zero x) y) plus-zero ≡ false
-max-not-negative x y = max-left plus-zero (max plus-zero x) y (max-left plus-zero plus-zero x zero-bound) .not-less
-
 amount-not-negative : (v : Variant) (t : Tolerances) (gamma delta-prev ljj normj : Float) → lt (amount v t gamma delta-prev ljj normj) plus-zero ≡ false
 unfolding amount
 amount-not-negative v t gamma delta-prev ljj normj = max-not-negative delta-prev _
@@ -84,7 +75,7 @@ step-keeps : (v : Variant) (t : Tolerances) (gamma : Float) (n j k : ℕ) (s : R
 unfolding phaseTwoStepAt
 step-keeps v t gamma n j k s K r =
     let T = step-tested v t gamma n j k s r in
-    set-amounts n (s .e) j (amountAt v t gamma n j k s) (T .amount-finite) (amount-not-negative v t gamma (s .delta-prev) (at n (pivotMatrix n j k (s .l)) j j) (normAt n j k s)) (K (T .before))
+    set-amounts n (s .e) j (amountAt v t gamma n j k s) (T .amount-finite) (amount-not-negative v t gamma (s .progress .«delta_prev») (at n (pivotMatrix n j k (s .l)) j j) (normAt n j k s)) (K (T .before))
 
 -- what is added last is not negative
 abbrev NotNegative : Last → Type 0
@@ -104,31 +95,27 @@ pair-not-negative : (v : Variant) (t : Tolerances) (gamma : Float) (n : ℕ) (l 
 unfolding pairOf
 pair-not-negative v t gamma n l delta-prev = max-not-negative _ delta-prev
 
--- ---- a whole run, with today's tolerances
-one-not-below : (v : Variant) (n : ℕ) (a l : List Float) → 0 < n → leavesBefore v tolerances (diagonalMax n a) n (n - 1) l ≡ true
-    → NotNegative (oneOf tolerances (diagonalMax n a) (at n l (n - 1) (n - 1)))
+-- ---- a whole run
+one-not-below : (v : Variant) (t : Tolerances) → PositiveTolerances t → (n : ℕ) (a l : List Float) → 0 < n → leavesBefore v t (diagonalMax n a) n (n - 1) l ≡ true
+    → NotNegative (oneOf v t (diagonalMax n a) (at n l (n - 1) (n - 1)))
 unfolding leavesBefore oneOf
-one-not-below Se90 n a l some h = absurd (false≢true h)
-one-not-below Se99 n a l some h = one-not-negative n a l some h
+one-not-below Se90 t P n a l some h = absurd (false≢true h)
+one-not-below Se99 t P n a l some h = one-not-negative t P n a l some h
 
-module _ (v : Variant) (n : ℕ) (a : List Float) (some : 0 < n) where
-  kept-two : KeptInPhaseTwo v tolerances (diagonalMax n a) n (First v tolerances (diagonalMax n a) n) (Kept n)
+module _ (v : Variant) (t : Tolerances) (P : PositiveTolerances t) (n : ℕ) (a : List Float) (some : 0 < n) where
+  kept-two : KeptInPhaseTwo v t (diagonalMax n a) n (First v t (diagonalMax n a) n) (Kept n)
   unfolding lastPair lastOne
   kept-two = record {
     after-one = λ s F. F .amounts;
     by-begin = λ k s h K. begin-keeps n k s K;
-    by-step = λ j k s h hk K. step-keeps v tolerances (diagonalMax n a) n j k s K;
-    by-pair = λ s h K. last-keeps n (pairOf v tolerances (diagonalMax n a) n (s .l) (s .delta-prev)) s (pair-not-negative v tolerances (diagonalMax n a) n (s .l) (s .delta-prev)) K;
-    by-one = λ s h m F. last-keeps n (oneOf tolerances (diagonalMax n a) (at n (s .l) (n - 1) (n - 1))) s (one-not-below v n a (s .l) some (F .left m)) (F .amounts);
+    by-step = λ j k s h hk K. step-keeps v t (diagonalMax n a) n j k s K;
+    by-pair = λ s h K. last-keeps n (pairOf v t (diagonalMax n a) n (s .l) (s .progress .«delta_prev»)) s (pair-not-negative v t (diagonalMax n a) n (s .l) (s .progress .«delta_prev»)) K;
+    by-one = λ s h m F. last-keeps n (oneOf v t (diagonalMax n a) (at n (s .l) (n - 1) (n - 1))) s (one-not-below v t P n a (s .l) some (F .left m)) (F .amounts);
   }
 
   -- before they are put in the order of the original rows
-  pub run-amounts : run v tolerances n a .refused ≡ Never → Amounts n (run v tolerances n a .e)
-  run-amounts = run-keeps v tolerances n a (First v tolerances (diagonalMax n a) n) (Kept n) (kept-one v tolerances (diagonalMax n a) n) kept-two (start-first v tolerances (diagonalMax n a) n a)
+  run-amounts : run v t n a .progress .refused ≡ Never → Amounts n (run v t n a .e)
+  run-amounts = run-keeps v t n a (First v t (diagonalMax n a) n) (Kept n) (kept-one v t (diagonalMax n a) n) kept-two (start-first v t (diagonalMax n a) n a)
 
-  handed-back : mod-cholesky-se v tolerances n a .e ≡ filled (run v tolerances n a .refused) n (reorder n (run v tolerances n a .p) (run v tolerances n a .e))
-  unfolding mod-cholesky-se
-  handed-back = refl
-
-  pub amounts-se : Amounts n (mod-cholesky-se v tolerances n a .e)
-  amounts-se = rw handed-back (filled-amounts (run v tolerances n a .refused) n _ (λ r. reorder-amounts n (run v tolerances n a .p) (run v tolerances n a .e) (run-amounts r)))
+  pub amounts-se : run v t n a .progress .refused ≡ Never → Amounts n (reorder n (run v t n a .p) (run v t n a .e))
+  amounts-se r = reorder-amounts n (run v t n a .p) (run v t n a .e) (run-amounts r)

@@ -9,15 +9,16 @@ use lib.ListN.{length, getD, length-set, length-replicate}
 use lib.Seq.{getD-set-same, getD-set-other}
 use lib.Ieee.{Float, nan, isNan, ofBits}
 use Rattle.arithmetic.specs.Double.{plus-zero, one, epsilon, _⊕_, _⊘_, square, abs, max}
-use Rattle.matrix.proofs.Bijection.{Is, is, holds, fails}
+use Rattle.arithmetic.specs.AtLeast.{AtLeast}
+use Rattle.arithmetic.proofs.Maximum.{at-least-self, max-left, max-right, epsilon-times}
+use Rattle.arithmetic.proofs.Cases.{Is, is, holds, fails}
 use Rattle.methods.specs.Marks.{marked}
 use Rattle.methods.specs.Statements.{diagonalMax}
-use Rattle.methods.specs.Gmw81.{Run, start, dOf, stepAt, finish, offDiagonalMax, deltaOf}
+use Rattle.methods.specs.Gmw81.{Run, start, dOf, stepAt, finish, stepped, offDiagonalMax, deltaOf}
 use Rattle.methods.specs.declared.decomposition.Mark.the-variants.{Never}
 use Rattle.methods.proofs.GmwLaws.{started-is, step-at-is, finish-stays, finish-goes}
-use Rattle.methods.proofs.GmwRuns.{KeptBySteps, steps-keep, stepD, step-never, stepped, run-is, finish-never}
-use Rattle.results.specs.Results.{AtLeast, DTheorem}
-use Rattle.results.proofs.Maximum.{at-least-self, max-left, max-right, epsilon-times}
+use Rattle.methods.proofs.GmwRuns.{KeptBySteps, steps-keep, stepD, step-never, run-is, finish-never}
+use Rattle.results.specs.Results.{DTheorem}
 
 -- ---- delta and d
 one-bound : AtLeast one one
@@ -42,7 +43,7 @@ module _ (n : ℕ) (delta beta : Float) (large : AtLeast epsilon delta) where
 
   record Bounded (j : ℕ) (s : Run) : Type 0 where
     len : length (s .d) ≡ n
-    large-d : s .refused ≡ Never → (i : ℕ) → i < j → AtLeast epsilon (getD (s .d) i nan)
+    large-d : s .progress .refused ≡ Never → (i : ℕ) → i < j → AtLeast epsilon (getD (s .d) i nan)
 
   bounded-at : (j k : ℕ) (tie : Bool) (s : Run) → j < n → Bounded j s → Bounded (suc j) (stepAt n delta beta j k tie s)
   bounded-at j k tie s pj B =
@@ -67,9 +68,9 @@ module _ (n : ℕ) (delta beta : Float) (large : AtLeast epsilon delta) where
 
 -- ---- the end changes no d
 finish-d : (n : ℕ) (s : Run) → finish n s .d ≡ s .d
-finish-d n s = go (is (marked (s .refused)))
+finish-d n s = go (is (marked (s .progress .refused)))
   where
-    go : Is (marked (s .refused)) → finish n s .d ≡ s .d
+    go : Is (marked (s .progress .refused)) → finish n s .d ≡ s .d
     go (holds h) = ap (λ (t : Run). t .d) (finish-stays n s h)
     go (fails h) = ap (λ (t : Run). t .d) (finish-goes n s h)
 

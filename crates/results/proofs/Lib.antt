@@ -1,5 +1,3 @@
-pub mod Maximum
-pub mod Difference
 pub mod Marks
 pub mod SeTests
 pub mod BoundsGmw81
@@ -12,9 +10,5 @@ pub mod LowerTriangle
 pub mod LowerScaled
 pub mod LowerGmw81
 pub mod LowerSe
-pub mod Order
-pub mod OrderGmw81
-pub mod OrderSe
-pub mod MarksGmw81
-pub mod MarksSe
+pub mod Handed
 pub mod Theorem

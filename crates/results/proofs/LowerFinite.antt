@@ -8,7 +8,7 @@ use native.Mathlib.Omega.{arith}
 use lib.Ieee.{Float}
 use lib.Ieee.Scale.{finite}
 use Rattle.arithmetic.specs.Double.{_⊖_, _⊗_, _⊘_}
-use Rattle.arithmetic.specs.Loop.{range-ind}
+use Rattle.arithmetic.proofs.LoopLaws.{range-ind}
 use Rattle.arithmetic.specs.Sqrt.{sqrt}
 use Rattle.matrix.specs.Matrix.{at, put}
 use Rattle.matrix.proofs.EntryLaws.{Entries, put-entries, at-put-other}

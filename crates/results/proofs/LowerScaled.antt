@@ -7,15 +7,16 @@ use native.Mathlib.Omega.{arith}
 use lib.ListN.{getD}
 use lib.Ieee.{Float, nan}
 use lib.Ieee.Scale.{finite}
-use Rattle.arithmetic.specs.All.{all, all-each}
+use Rattle.arithmetic.specs.All.{all}
+use Rattle.arithmetic.proofs.AllLaws.{all-each}
 use Rattle.arithmetic.specs.Double.{plus-zero, _⊗_}
-use Rattle.arithmetic.specs.Order.{and-1, and-2}
+use Rattle.arithmetic.proofs.OrderLaws.{and-1, and-2}
 use Rattle.arithmetic.specs.Sqrt.{sqrt}
+use Rattle.arithmetic.proofs.Zeros.{zero-times, add-zero}
 use Rattle.matrix.specs.Checks.{AllFinite}
-use Rattle.matrix.specs.Matrix.{cell-lt}
+use Rattle.matrix.proofs.CellLaws.{cell-lt}
 use Rattle.methods.specs.Gmw81.{doutOf, product, scaledFinite}
 use Rattle.methods.proofs.Scaled.{product-entries, dout-root, scaled-at}
-use Rattle.methods.proofs.Zeros.{zero-times, add-zero}
 use Rattle.results.specs.Results.{LowerFactor}
 
 abbrev allFinite : ℕ → List Float → Bool

@@ -10,23 +10,23 @@ use Rattle.matrix.specs.Matrix.{at}
 use Rattle.matrix.specs.declared.utils.Eigen.{Eigen}
 use Rattle.matrix.proofs.EntryLaws.{at-put-other}
 use Rattle.methods.specs.Statements.{pivotMatrix, eliminate, diagonalMax, lowerTriangle}
-use Rattle.methods.specs.Se.{Run, start, pivot, factorize, begin, added, phaseTwoStepAt, pairOf, oneOf, addPair, addOne, addLast, rowsOf, lastPair, lastOne, run, mod-cholesky-se}
+use Rattle.methods.specs.Se.{Run, start, pivot, factorize, begin, added, phaseTwoStepAt, pairOf, oneOf, addPair, addOne, addLast, rowsOf, lastPair, lastOne, run}
 use Rattle.methods.specs.declared.decomposition.Mark.the-variants.{Never}
 use Rattle.methods.specs.declared.schnabel_eskow.Tolerances.{Tolerances}
 use Rattle.methods.specs.declared.schnabel_eskow.Variant.{Variant}
 use Rattle.methods.specs.declared.schnabel_eskow.Last.{Last}
 use Rattle.methods.specs.declared.schnabel_eskow.Last.the-variants.{One, Pair}
+use Rattle.methods.specs.AcceptedMatrix.{AcceptedMatrix}
 use Rattle.methods.proofs.FiniteEntries.{FiniteEntries, pivot-finite}
 use Rattle.methods.proofs.SeRuns.{KeptInPhaseOne, KeptInPhaseTwo, run-keeps}
-use Rattle.load_order.specs.LoadOrder.{Accepted}
 use Rattle.results.specs.Results.{LowerFactor}
 use Rattle.results.proofs.SeTests.{factorize-never, begin-never, amountAt, addedAt, step-tested, one₁, one-tested, pair₁, pair₂, pair₃, pair₄, pair-tested}
 use Rattle.results.proofs.LowerFinite.{put-finite, outside-put, outside-self, outside-eliminate, block-finite}
-use Rattle.results.proofs.LowerTriangle.{triangle-lower, handed-lower}
+use Rattle.results.proofs.LowerTriangle.{triangle-lower}
 
 -- until the run is refused
 abbrev FiniteRun : ℕ → Run → Type 0
-FiniteRun n s = s .refused ≡ Never → FiniteEntries n (s .l)
+FiniteRun n s = s .progress .refused ≡ Never → FiniteEntries n (s .l)
 
 -- ---- phase one
 kept-one : (v : Variant) (t : Tolerances) (gamma : Float) (n : ℕ) → KeptInPhaseOne v t gamma n (FiniteRun n)
@@ -85,18 +85,17 @@ kept-two v t gamma n = record {
   after-one = λ s F. F;
   by-begin = λ k s h F. begin-finite n k s F;
   by-step = step-finite v t gamma n;
-  by-pair = λ s h F. last-finite n (pairOf v t gamma n (s .l) (s .delta-prev)) s h F;
-  by-one = λ s h m F. last-finite n (oneOf t gamma (at n (s .l) (n - 1) (n - 1))) s h F;
+  by-pair = λ s h F. last-finite n (pairOf v t gamma n (s .l) (s .progress .«delta_prev»)) s h F;
+  by-one = λ s h m F. last-finite n (oneOf v t gamma (at n (s .l) (n - 1) (n - 1))) s h F;
 }
 
 -- ---- a whole run
-start-finite : (n : ℕ) (a : List Float) → Accepted n a → FiniteRun n (start n a)
+start-finite : (n : ℕ) (a : List Float) → AcceptedMatrix n a → FiniteRun n (start n a)
 unfolding start
 start-finite n a A e = record { entries = A .entries; each = A .finite-entries }
 
-pub finite-se : (v : Variant) (t : Tolerances) (n : ℕ) (a : List Float) → Accepted n a → run v t n a .refused ≡ Never → FiniteEntries n (run v t n a .l)
+finite-se : (v : Variant) (t : Tolerances) (n : ℕ) (a : List Float) → AcceptedMatrix n a → run v t n a .progress .refused ≡ Never → FiniteEntries n (run v t n a .l)
 finite-se v t n a A = run-keeps v t n a (FiniteRun n) (FiniteRun n) (kept-one v t (diagonalMax n a) n) (kept-two v t (diagonalMax n a) n) (start-finite n a A)
 
-pub lower-se : (v : Variant) (t : Tolerances) (n : ℕ) (a : List Float) → Accepted n a → LowerFactor n (mod-cholesky-se v t n a .l)
-unfolding mod-cholesky-se
-lower-se v t n a A = handed-lower n (run v t n a .refused) (lowerTriangle n (run v t n a .l)) (λ e. triangle-lower n (run v t n a .l) (finite-se v t n a A e))
+pub lower-se : (v : Variant) (t : Tolerances) (n : ℕ) (a : List Float) → AcceptedMatrix n a → run v t n a .progress .refused ≡ Never → LowerFactor n (lowerTriangle n (run v t n a .l))
+lower-se v t n a A e = triangle-lower n (run v t n a .l) (finite-se v t n a A e)

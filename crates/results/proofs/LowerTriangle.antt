@@ -6,7 +6,8 @@ use native.Mathlib.Omega.{arith}
 use lib.ListN.{length-replicate, getD-replicate}
 use lib.Ieee.{Float, nan}
 use Rattle.arithmetic.specs.Double.{plus-zero}
-use Rattle.matrix.specs.Matrix.{at, zeros, cell-lt}
+use Rattle.matrix.specs.Matrix.{at, zeros}
+use Rattle.matrix.proofs.CellLaws.{cell-lt}
 use Rattle.methods.specs.Result.{filled}
 use Rattle.methods.specs.Statements.{lowerTriangle}
 use Rattle.methods.specs.declared.decomposition.Mark.{Mark}
@@ -20,7 +21,7 @@ finite-lower n l F u = record { len = F .entries; finite-entries = F .each; uppe
 pub triangle-lower : (n : ℕ) (m : List Float) → FiniteEntries n m → LowerFactor n (lowerTriangle n m)
 triangle-lower n m F = finite-lower n (lowerTriangle n m) (triangle-finite n m F) (triangle-above n m (F .entries))
 
--- ---- what is handed back, also by a refused run
+-- ---- the fillings of a refused run
 zeros-lower : (n : ℕ) → LowerFactor n (zeros (n * n))
 zeros-lower n = record {
   len = length-replicate (n * n) plus-zero;
@@ -31,6 +32,6 @@ zeros-lower n = record {
     here : (x y : ℕ) → x < n → y < n → at n (zeros (n * n)) x y ≡ plus-zero
     here x y px py = getD-replicate (n * n) (x * n + y) plus-zero nan (cell-lt n x y px py)
 
-pub handed-lower : (n : ℕ) (m : Mark) (l : List Float) → (m ≡ Never → LowerFactor n l) → LowerFactor n (filled m (n * n) l)
-handed-lower n Never l h = h refl
-handed-lower n (Step j) l h = zeros-lower n
+pub filled-lower : (m : Mark) (n : ℕ) (l : List Float) → (m ≡ Never → LowerFactor n l) → LowerFactor n (filled m (n * n) l)
+filled-lower Never n l h = h refl
+filled-lower (Step j) n l h = zeros-lower n

@@ -6,17 +6,20 @@ use mathlib.Core.Bool.{true, false}
 use mathlib.Core.List.{List}
 use Prim.Native.Nat.{ℕ, _*_, _<_, _≤_}
 use lib.ListN.{length, getD}
-use lib.Ieee.{Float, nan, lt, isNan}
+use lib.Ieee.{Float, nan, lt}
 use lib.Ieee.Scale.{finite}
+use Rattle.arithmetic.specs.AtLeast.{AtLeast}
 use Rattle.arithmetic.specs.Double.{plus-zero, epsilon}
 use Rattle.arithmetic.specs.declared.outcome.Outcome.the-variants.{StoredNotFinite}
 use Rattle.matrix.specs.Matrix.{at}
+use Rattle.methods.specs.AcceptedMatrix.{AcceptedMatrix}
+use Rattle.methods.specs.Reloading.{LoadOrder}
 use Rattle.methods.specs.Result.{Result}
-use Rattle.methods.specs.Factor.{Method, factor, tolerances}
+use Rattle.methods.specs.Factor.{factor, tolerances}
 use Rattle.methods.specs.Gmw81.{run}
+use Rattle.methods.specs.declared.method.Method.{Method}
 use Rattle.methods.specs.declared.decomposition.Decomposition.{Decomposition}
 use Rattle.methods.specs.declared.decomposition.Mark.the-variants.{Never, Step}
-use Rattle.load_order.specs.LoadOrder.{LoadOrder, Accepted}
 
 -- e[r] is a finite number that is not negative
 pub record Amounts (n : ℕ) (e : List Float) : Type 0 where
@@ -44,12 +47,7 @@ pub record Sound (n : ℕ) (r : Result) : Type 0 where
   pub marks : MarksBelow n (r .decomposition)
 
 abbrev pub ResultsTheorem : Type 0
-ResultsTheorem = (method : Method) (n : ℕ) (a : List Float) → 0 < n → Accepted n a → Sound n (factor method tolerances n a)
-
--- x is a number that is not less than w
-pub record AtLeast (w x : Float) : Type 0 where
-  pub number : isNan x ≡ false
-  pub not-less : lt x w ≡ false
+ResultsTheorem = (method : Method) (n : ℕ) (a : List Float) → 0 < n → AcceptedMatrix n a → Sound n (factor method tolerances n a)
 
 abbrev pub DTheorem : Type 0
-DTheorem = (n : ℕ) (a : List Float) → 0 < n → Accepted n a → run n a .refused ≡ Never → (j : ℕ) → j < n → AtLeast epsilon (getD (run n a .d) j nan)
+DTheorem = (n : ℕ) (a : List Float) → 0 < n → AcceptedMatrix n a → run n a .progress .refused ≡ Never → (j : ℕ) → j < n → AtLeast epsilon (getD (run n a .d) j nan)

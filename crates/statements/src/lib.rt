@@ -7,9 +7,8 @@ ghost use lib.Ieee.{nan};
 ghost use lib.Ieee.Scale.{finite};
 ghost use Rattle.arithmetic.specs.Double.{_⊘_};
 ghost use Rattle.matrix.specs.Matrix.{Square, at};
-ghost use Rattle.matrix.specs.Search.{largest};
 ghost use Rattle.matrix.specs.Plain.{AllBelow};
-ghost use Rattle.methods.specs.Statements.{largerMagnitude, diagonalMax, diagonalFrom, pivotMatrix, pivotList, eliminate, clearAfter, lowerTriangle, reorder, blockFinite};
+ghost use Rattle.methods.specs.Statements.{largerMagnitude, diagonalMax, diagonal, pick, pivotMatrix, pivotList, eliminate, clearAfter, lowerTriangle, reorder, blockFinite};
 ghost use Rattle.methods.specs.Elimination.{mirrored, swapLeft, swapBetween, swapBelow, RowWritten, ColumnWritten, RowsEliminated, subtracted};
 ghost use Rattle.methods.specs.Result.{identity};
 use arithmetic::double::abs;
@@ -41,7 +40,17 @@ pub fn diagonal_max(m: &[f64], n: usize) -> f64
     acc
 }
 
-// ---- the pivot search, over a copy of the diagonal from j on
+// ---- the pivot search
+
+// Where the largest of the values from j on is first, counted from j, and whether it is tied.
+pub fn pick(magnitude: bool, values: &[f64], j: usize) -> Found
+    requires { ⌜ j < length (now values) ⌝ }
+    ensures { λ r. ⌜ r ≡ pick magnitude (now (values .entry)) j ⌝ }
+{
+    utils::largest(magnitude, &values[j..])
+}
+
+// .. of the diagonal, which is copied from j on
 
 fn copy_diagonal(m: &[f64], n: usize, j: usize, diag: &mut [f64])
     requires { ⌜ Square n (now m) ⌝ }
@@ -56,10 +65,10 @@ fn copy_diagonal(m: &[f64], n: usize, j: usize, diag: &mut [f64])
 pub fn search_diagonal(magnitude: bool, m: &[f64], n: usize, j: usize, diag: &mut [f64]) -> Found
     requires { ⌜ Square n (now m) ⌝ }
     requires { ⌜ (j < n) × (length (now diag) ≡ n) ⌝ }
-    ensures { λ r. ⌜ r ≡ largest magnitude (diagonalFrom n (now (m .entry)) j) ⌝ }
+    ensures { λ r. ⌜ r ≡ pick magnitude (diagonal n (now (m .entry))) j ⌝ }
 {
     copy_diagonal(m, n, j, diag);
-    utils::largest(magnitude, &diag[j..n])
+    pick(magnitude, diag, j)
 }
 
 // ---- pivots: nothing where max_idx is 0

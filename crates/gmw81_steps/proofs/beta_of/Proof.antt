@@ -1,3 +1,4 @@
+-- `beta_of` meets its contract.
 use Prim.Native.Nat.{_^_, _≤_}
 use native.Mathlib.Omega.{arith}
 use borrow.Author.Needs.{needs}
@@ -11,33 +12,9 @@ int-to-float-square : tie.Need-int-to-float-square
 unfolding inFloat
 int-to-float-square c = let h : c .before .args .n ≤ 48 = c .before .pre in le→leb (c .before .args .n) (2 ^ 53) (omega arith)
 
-square-requires : tie.Need-square-requires
-square-requires c κs = search needs
-
-sqrt-requires : tie.Need-sqrt-requires
-sqrt-requires c κs = search needs
-
-max-requires : tie.Need-max-requires
-max-requires c κs = search needs
-
-max-requires-2 : tie.Need-max-requires-2
-max-requires-2 c κs = search needs
-
-sqrt-requires-2 : tie.Need-sqrt-requires-2
-sqrt-requires-2 c κs = search needs
-
 returns : tie.Need-returns
 unfolding betaOf count
 returns c = rw (c .sqrt2 .ensures, c .before .max2 .ensures, c .before .before .max .ensures, c .before .before .before .sqrt .ensures, c .before .before .before .before .square .ensures)
 
 pub beta-of-spec : {M : Type 1} → statement M
-beta-of-spec =
-    tie.close
-    (tie.spec
-    int-to-float-square
-    square-requires
-    sqrt-requires
-    max-requires
-    max-requires-2
-    sqrt-requires-2
-    returns)
+beta-of-spec = tie.close (tie.spec int-to-float-square (λ c κs. search needs) (λ c κs. search needs) (λ c κs. search needs) (λ c κs. search needs) (λ c κs. search needs) returns)

@@ -1,3 +1,4 @@
+-- `scale` meets its contract.
 use mathlib.Core.Path.{_≡_, refl, sym, ap, _∙_}
 use mathlib.Core.Bool.{Bool, _&&_}
 use mathlib.Core.List.{List}
@@ -35,33 +36,6 @@ scaled n l d r l₁ l₂ l₃ b₁ b₂ ok pn hd F h₃ er e₁ e₂ e₃ f₁ f
     e₃ ∙ ap (range 0 n (scaleRow n r)) (e₂ ∙ ap (lowerTriangle n) e₁ ∙ sym (unit-lower-is n l)) ∙ scaled-is n (unitLower n l) r d e (U .entries) (U .each) in
     (g, f ∙ rw (f₁, f₂) (scaled-finite-is n d r pn e l₃ h₃) ∙ ap (scaledFinite n (doutOf n d)) g)
 
-roots-requires : tie.Need-roots-requires
-roots-requires c κs = search needs
-
-unit-diagonal-requires : tie.Need-unit-diagonal-requires
-unit-diagonal-requires c κs = search needs
-
-lower-triangle-requires : tie.Need-lower-triangle-requires
-lower-triangle-requires c κs = search needs
-
-scale-rows-requires : tie.Need-scale-rows-requires
-scale-rows-requires c κs = search needs
-
-list-finite-requires : tie.Need-list-finite-requires
-list-finite-requires c κs = search needs
-
-list-finite-requires-2 : tie.Need-list-finite-requires-2
-list-finite-requires-2 c κs = search needs
-
-both-requires : tie.Need-both-requires
-both-requires c κs = search needs
-
-same-length : tie.Need-same-length
-same-length c = search needs
-
-same-length-2 : tie.Need-same-length-2
-same-length-2 c = search needs
-
 returns : tie.Need-returns
 returns c =
     let c₁ = c .before .before .before .before .before .before .before in
@@ -75,16 +49,4 @@ returns c =
     (c .before .before .before .list-finite .ensures) (c .before .list-finite2 .ensures) (c .both .ensures)
 
 pub scale-spec : {M : Type 1} → statement M
-scale-spec =
-    tie.close
-    (tie.spec
-    roots-requires
-    unit-diagonal-requires
-    lower-triangle-requires
-    scale-rows-requires
-    list-finite-requires
-    list-finite-requires-2
-    both-requires
-    same-length
-    same-length-2
-    returns)
+scale-spec = tie.close (tie.spec (λ c κs. search needs) (λ c κs. search needs) (λ c κs. search needs) (λ c κs. search needs) (λ c κs. search needs) (λ c κs. search needs) (λ c κs. search needs) (λ c. search needs) (λ c. search needs) returns)

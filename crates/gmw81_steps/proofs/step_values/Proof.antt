@@ -1,3 +1,4 @@
+-- `step_values` meets its contract.
 use mathlib.Core.Path.{_≡_, refl}
 use mathlib.Core.List.{List}
 use Prim.Native.Nat.{ℕ}
@@ -11,38 +12,14 @@ use Rattle.methods.specs.Statements.{pivotMatrix}
 use Rattle.gmw81_steps.proofs.step_values.Statement.{statement}
 use Rattle.gmw81_steps.proofs.step_values.Tie as tie
 
-pivot-matrix-requires : tie.Need-pivot-matrix-requires
-pivot-matrix-requires c κs = search needs
-
-pivot-matrix-requires-2 : tie.Need-pivot-matrix-requires-2
-pivot-matrix-requires-2 c κs = search needs
-
-divide-row-requires : tie.Need-divide-row-requires
-divide-row-requires c κs = search needs
-
-column-requires : tie.Need-column-requires
-column-requires c κs = search needs
-
 theta-of-requires : tie.Need-theta-of-requires
 theta-of-requires c κs = search needs
-
-get-requires : tie.Need-get-requires
-get-requires c κs = search needs
-
-d-of-requires : tie.Need-d-of-requires
-d-of-requires c κs = search needs
 
 update-diagonal-requires : tie.Need-update-diagonal-requires
 update-diagonal-requires c κs = theta-of-requires (c .before .before .before .before .before) κs
 
 get-requires-2 : tie.Need-get-requires-2
 get-requires-2 c κs = let h = theta-of-requires (c .before .before .before .before .before .before .before .before .before) κs in omega (arith, h, c .before .before .before .update-diagonal .kept)
-
-same-length : tie.Need-same-length
-same-length c = search needs
-
-same-length-2 : tie.Need-same-length-2
-same-length-2 c = search needs
 
 stepped : (n : ℕ) (delta beta : Float) (j m : ℕ) (l c d c₁ l₁ l₂ c₂ c₃ : List Float) (theta cjj dj cjj' : Float)
     → c₁ ≡ pivotMatrix n j m c → l₁ ≡ pivotMatrix n j m l → l₂ ≡ divideRow n j c₁ d l₁ → c₂ ≡ column n j l₂ c₁ → theta ≡ thetaOf n j c₂
@@ -72,18 +49,4 @@ returns c =
     (c₃ .theta-of .ensures) (c₂ .get .ensures) (c₁ .d-of .ensures) (c .before .before .before .before .update-diagonal .ensures) (c .get2 .ensures)
 
 pub step-values-spec : {M : Type 1} → statement M
-step-values-spec =
-    tie.close
-    (tie.spec
-    pivot-matrix-requires
-    pivot-matrix-requires-2
-    divide-row-requires
-    column-requires
-    theta-of-requires
-    get-requires
-    d-of-requires
-    update-diagonal-requires
-    get-requires-2
-    same-length
-    same-length-2
-    returns)
+step-values-spec = tie.close (tie.spec (λ c κs. search needs) (λ c κs. search needs) (λ c κs. search needs) (λ c κs. search needs) theta-of-requires (λ c κs. search needs) (λ c κs. search needs) update-diagonal-requires get-requires-2 (λ c. search needs) (λ c. search needs) returns)

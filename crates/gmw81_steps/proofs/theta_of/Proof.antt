@@ -1,7 +1,7 @@
-use mathlib.Core.Path.{_≡_, sym, _∙_}
-use Prim.Native.Nat.{_-_, _≤_}
+-- theta_of takes the largest magnitude of column j below the diagonal.
+use Prim.Native.Nat.{_-_}
 use borrow.Author.Needs.{needs}
-use Rattle.arithmetic.specs.Loop.{range, loop-start, loop-turn, loop-end}
+use Rattle.arithmetic.proofs.Counting.{Counting, counting-start, counting-turn, loops}
 use Rattle.matrix.specs.Matrix.{at}
 use Rattle.methods.specs.Statements.{largerMagnitude}
 use Rattle.methods.proofs.GmwLaws.{theta-is}
@@ -9,46 +9,13 @@ use Rattle.gmw81_steps.proofs.theta_of.Statement.{statement}
 use Rattle.gmw81_steps.proofs.theta_of.Tie as tie
 
 abbrev Inv-loop : tie.InvT-loop
-Inv-loop c n j acc₀ a i₀ acc i = (a ≤ i) × (i ≤ n) × (acc ≡ range a i (λ k x. largerMagnitude x (at n c k j)) acc₀)
+Inv-loop c n j acc₀ a i₀ acc i = Counting a n i (λ k x. largerMagnitude x (at n c k j)) acc₀ acc
 
 abbrev μ-loop : tie.MeasureT-loop
 μ-loop c n j acc₀ a i₀ acc i = n - i
 
-add-a : tie.Need-add-a Inv-loop μ-loop
-add-a c = search needs
-
-loop-holds : tie.Need-loop-holds Inv-loop μ-loop
-loop-holds c = (search needs, search needs, loop-start _ _ _)
-
-get-requires : tie.Need-get-requires Inv-loop μ-loop
-get-requires c κs = search needs
-
-larger-magnitude-requires : tie.Need-larger-magnitude-requires Inv-loop μ-loop
-larger-magnitude-requires c κs = search needs
-
-add-i : tie.Need-add-i Inv-loop μ-loop
-add-i c = search needs
-
-loop-less : tie.Need-loop-less Inv-loop μ-loop
-loop-less c = search needs
-
 loop-again : tie.Need-loop-again Inv-loop μ-loop
-loop-again c = (search needs, search needs, loop-turn _ _ _ _ _ _ (c .before .before .before .loop .inv .0) (c .before .before .before .loop .inv .2) (rw (c .larger-magnitude .ensures, c .before .get .ensures)))
-
-returns : tie.Need-returns Inv-loop μ-loop
-returns c = loop-end _ _ _ _ _ _ (c .before .loop .inv .1) (search needs) (c .before .loop .inv .2) ∙ sym (theta-is _ _ _ (c .before .before .before .pre .1))
+loop-again c = counting-turn (c .before .before .before .loop .inv) (search needs) (rw (c .larger-magnitude .ensures, c .before .get .ensures))
 
 pub theta-of-spec : {M : Type 1} → statement M
-theta-of-spec =
-    tie.close
-    (tie.spec
-    Inv-loop
-    μ-loop
-    add-a
-    loop-holds
-    get-requires
-    larger-magnitude-requires
-    add-i
-    loop-less
-    loop-again
-    returns)
+theta-of-spec = tie.close (tie.spec Inv-loop μ-loop (search needs) (λ c. counting-start (search needs)) (search needs) (search needs) (search needs) (search needs) loop-again (λ c. search (loops, theta-is)))

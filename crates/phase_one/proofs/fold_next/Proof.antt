@@ -1,3 +1,4 @@
+-- `fold_next` meets its contract.
 use borrow.Author.Needs.{needs}
 use mathlib.Core.Path.{_≡_, _∙_}
 use mathlib.Core.Bool.{cond}
@@ -10,18 +11,6 @@ use Rattle.methods.specs.Se.{foldNext}
 use Rattle.methods.proofs.SeLaws.{cond-true, cond-false}
 use Rattle.phase_one.proofs.fold_next.Statement.{statement}
 use Rattle.phase_one.proofs.fold_next.Tie as tie
-
-get-requires : tie.Need-get-requires
-get-requires c κs = search needs
-
-get-requires-2 : tie.Need-get-requires-2
-get-requires-2 c κs = search needs
-
-square-requires : tie.Need-square-requires
-square-requires c κs = search needs
-
-get-requires-3 : tie.Need-get-requires-3
-get-requires-3 c κs = search needs
 
 next : (n j i : ℕ) (l : List Float) (acc a b s d : Float) → a ≡ at n l i i → b ≡ at n l i j → s ≡ square b → d ≡ at n l j j
     → cond (lt (a ⊖ s ⊘ d) acc) (a ⊖ s ⊘ d) acc ≡ foldNext n j l i acc
@@ -39,4 +28,4 @@ returns-2 c = let b = c .before .before .before in
 pub fold-next-spec : {M : Type 1} → statement M
 fold-next-spec =
     tie.close
-    (tie.spec get-requires get-requires-2 square-requires get-requires-3 returns returns-2)
+    (tie.spec (λ c κs. search needs) (λ c κs. search needs) (λ c κs. search needs) (λ c κs. search needs) returns returns-2)

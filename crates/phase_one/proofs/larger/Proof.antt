@@ -1,3 +1,4 @@
+-- `larger` meets its contract.
 use Rattle.phase_one.proofs.larger.Statement.{statement}
 use Rattle.phase_one.proofs.larger.Tie as tie
 

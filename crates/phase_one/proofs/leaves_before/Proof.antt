@@ -1,3 +1,4 @@
+-- `leaves_before` meets its contract.
 use borrow.Author.Needs.{needs}
 use mathlib.Core.Path.{_≡_}
 use mathlib.Core.Bool.{true, false}
@@ -15,12 +16,6 @@ use Rattle.phase_one.proofs.leaves_before.Tie as tie
 enum-told : tie.Need-enum-told
 enum-told c = search needs
 
-enum-told-2 : tie.Need-enum-told-2
-enum-told-2 c = search needs
-
-aii-max-requires : tie.Need-aii-max-requires
-aii-max-requires c κs = search needs
-
 module _ (v : Variant) (t : Tolerances) (gamma : Float) (n j : ℕ) (l : List Float) (max : Float) (se99 : v ≡ Se99) (e : max ≡ aiiMax n j l) where
   low : lt max (t .«tau_bar» ⊗ gamma) ≡ true → true ≡ leavesBefore v t gamma n j l
   unfolding leavesBefore
@@ -37,9 +32,6 @@ module _ (v : Variant) (t : Tolerances) (gamma : Float) (n j : ℕ) (l : List Fl
 returns : tie.Need-returns
 returns c = low _ _ _ _ _ _ _ (c .before .before .before .enum-told2 .given .1) (c .before .before .aii-max .ensures) (c .if1 .taken)
 
-aii-min-requires : tie.Need-aii-min-requires
-aii-min-requires c κs = search needs
-
 returns-2 : tie.Need-returns-2
 unfolding leavesBefore
 returns-2 c = rw (c .enum-told .given .1)
@@ -50,4 +42,4 @@ returns-3 c = not-low _ _ _ _ _ _ _ (c .before .before .before .before .before .
 pub leaves-before-spec : {M : Type 1} → statement M
 leaves-before-spec =
     tie.close
-    (tie.spec enum-told enum-told-2 aii-max-requires returns aii-min-requires returns-2 returns-3)
+    (tie.spec enum-told (λ c. search needs) (λ c κs. search needs) returns (λ c κs. search needs) returns-2 returns-3)

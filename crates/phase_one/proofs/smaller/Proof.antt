@@ -1,3 +1,4 @@
+-- `smaller` meets its contract.
 use Rattle.phase_one.proofs.smaller.Statement.{statement}
 use Rattle.phase_one.proofs.smaller.Tie as tie
 

@@ -1,56 +1,24 @@
+-- tmp_of keeps the smallest of the next diagonal.
+use Prim.Native.Nat.{_-_}
 use borrow.Author.Needs.{needs}
-use mathlib.Core.Path.{_≡_, _∙_}
-use mathlib.Core.List.{List}
-use Prim.Native.Nat.{ℕ, _+_, _-_, _≤_}
-use lib.Ieee.{Float}
-use Rattle.arithmetic.specs.Double.{plus-zero, one, _⊘_}
-use Rattle.arithmetic.specs.Loop.{range, loop-start, loop-turn, loop-end}
+use Rattle.arithmetic.proofs.Counting.{Counting, counting-start, counting-turn, counting-end}
 use Rattle.methods.specs.Se.{foldNext, tmpOf}
 use Rattle.methods.proofs.SeLaws.{infinity-is}
 use Rattle.phase_one.proofs.tmp_of.Statement.{statement}
 use Rattle.phase_one.proofs.tmp_of.Tie as tie
 
 abbrev Inv-loop : tie.InvT-loop
-Inv-loop l n j acc₀ a i₀ acc i = (a ≤ i) × (i ≤ n) × (acc ≡ range a i (foldNext n j l) acc₀)
+Inv-loop l n j acc₀ a i₀ acc i = Counting a n i (foldNext n j l) acc₀ acc
 
 abbrev μ-loop : tie.MeasureT-loop
 μ-loop l n j acc₀ a i₀ acc i = n - i
 
-add-a : tie.Need-add-a Inv-loop μ-loop
-add-a c = search needs
-
-loop-holds : tie.Need-loop-holds Inv-loop μ-loop
-loop-holds c = (search needs, search needs, loop-start _ _ _)
-
-fold-next-requires : tie.Need-fold-next-requires Inv-loop μ-loop
-fold-next-requires c κs = search needs
-
-add-i : tie.Need-add-i Inv-loop μ-loop
-add-i c = search needs
-
-loop-less : tie.Need-loop-less Inv-loop μ-loop
-loop-less c = search needs
-
 loop-again : tie.Need-loop-again Inv-loop μ-loop
-loop-again c = (search needs, search needs, loop-turn _ _ _ _ _ _ (c .before .before .loop .inv .0) (c .before .before .loop .inv .2) (c .fold-next .ensures))
-
-tmp-is : (n j : ℕ) (l : List Float) → range (j + 1) n (foldNext n j l) (one ⊘ plus-zero) ≡ tmpOf n j l
-unfolding tmpOf
-tmp-is n j l = rw infinity-is
+loop-again c = counting-turn (c .before .before .loop .inv) (search needs) (c .fold-next .ensures)
 
 returns : tie.Need-returns Inv-loop μ-loop
-returns c = loop-end _ _ _ _ _ _ (c .before .loop .inv .1) (search needs) (c .before .loop .inv .2) ∙ tmp-is _ _ _
+unfolding tmpOf
+returns c = rw (← infinity-is) (counting-end (c .before .loop .inv) (search needs))
 
 pub tmp-of-spec : {M : Type 1} → statement M
-tmp-of-spec =
-    tie.close
-    (tie.spec
-    Inv-loop
-    μ-loop
-    add-a
-    loop-holds
-    fold-next-requires
-    add-i
-    loop-less
-    loop-again
-    returns)
+tmp-of-spec = tie.close (tie.spec Inv-loop μ-loop (search needs) (λ c. counting-start (search needs)) (search needs) (search needs) (search needs) loop-again returns)

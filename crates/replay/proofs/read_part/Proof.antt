@@ -1,3 +1,4 @@
+-- `read_part` meets its contract.
 use mathlib.Core.Path.{sym}
 use mathlib.Core.List.{List, _++_}
 use Prim.Native.Nat.{ℕ, _-_, _≤_}
@@ -13,37 +14,10 @@ use Rattle.replay.proofs.read_part.Tie as tie
 counts-front : (n : ℕ) (xs ys : List ℕ) → n ≤ length xs → Counts n (xs ++ ys)
 counts-front n xs ys h = let l : n ≤ length (xs ++ ys) = omega (arith, length-append xs ys) in (l, sym (length-take-le n (xs ++ ys) l))
 
-returns : tie.Need-returns
-returns c = search needs
-
-sub-read-full : tie.Need-sub-read-full
-sub-read-full c = search needs
-
-part-read-full-start : tie.Need-part-read-full-start
-part-read-full-start c = search needs
-
-part-read-full-end : tie.Need-part-read-full-end
-part-read-full-end c = search needs
-
-read-full-requires : tie.Need-read-full-requires
-read-full-requires c κs = search needs
-
-same-length : tie.Need-same-length
-same-length c = search needs
-
 returns-2 : tie.Need-returns-2
 returns-2 c =
     let a = c .before .before .before .before .before .before .args in
     counts-front _ (c .before .before .read-full .last .1 .0) (postOf 0 (a .len - 0) (a .buf .now)) (c .before .before .read-full .ensures .0)
 
 pub read-part-spec : {M : Type 1} → statement M
-read-part-spec =
-    tie.close
-    (tie.spec
-    returns
-    sub-read-full
-    part-read-full-start
-    part-read-full-end
-    read-full-requires
-    same-length
-    returns-2)
+read-part-spec = tie.close (tie.spec (λ c. search needs) (λ c. search needs) (λ c. search needs) (λ c. search needs) (λ c κs. search needs) (λ c. search needs) returns-2)

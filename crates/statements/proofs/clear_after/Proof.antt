@@ -1,10 +1,9 @@
-use mathlib.Core.Path.{_≡_, refl, sym, _∙_}
-use mathlib.Core.List.{List}
-use Prim.Native.Nat.{ℕ, _+_, _-_, _≤_}
+-- clear_after clears row i after the diagonal.
+use mathlib.Core.Path.{_≡_}
+use Prim.Native.Nat.{_-_}
 use lib.ListN.{length}
-use lib.Ieee.{Float}
 use Rattle.arithmetic.specs.Double.{plus-zero}
-use Rattle.arithmetic.specs.Loop.{range, loop-start, loop-turn, loop-end}
+use Rattle.arithmetic.proofs.Counting.{Counting, counting-start, counting-turn, loops}
 use Rattle.matrix.specs.Matrix.{put}
 use borrow.Author.Needs.{needs}
 use Rattle.methods.specs.Statements.{clearAfter}
@@ -12,54 +11,17 @@ use Rattle.statements.proofs.clear_after.Statement.{statement}
 use Rattle.statements.proofs.clear_after.Tie as tie
 
 abbrev Inv-loop : tie.InvT-loop
-Inv-loop l₀ n i a k₀ l k = (a ≤ k) × (k ≤ n) × (length l ≡ length l₀) × (l ≡ range a k (λ t m. put n m i t plus-zero) l₀)
+Inv-loop l₀ n i a k₀ l k = Counting a n k (λ t m. put n m i t plus-zero) l₀ l × (length l ≡ length l₀)
 
 abbrev μ-loop : tie.MeasureT-loop
 μ-loop l₀ n i a k₀ l k = n - k
 
-add-a : tie.Need-add-a Inv-loop μ-loop
-add-a c = search needs
-
-loop-holds : tie.Need-loop-holds Inv-loop μ-loop
-loop-holds c = (search needs, search needs, refl, loop-start _ _ _)
-
-put-requires : tie.Need-put-requires Inv-loop μ-loop
-put-requires c κs = search needs
-
-add-k : tie.Need-add-k Inv-loop μ-loop
-add-k c = search needs
-
-loop-less : tie.Need-loop-less Inv-loop μ-loop
-loop-less c = search needs
-
 loop-again : tie.Need-loop-again Inv-loop μ-loop
-loop-again c =
-    let l = c .before .before .before .before .before .loop in
-    (search needs, search needs, search needs, loop-turn _ _ _ _ _ _ (l .inv .0) (l .inv .3) (c .before .before .put .ensures))
-
-same-length : tie.Need-same-length Inv-loop μ-loop
-same-length c = search needs
-
-clear-is : (n i : ℕ) (l : List Float) → clearAfter n i l ≡ range (i + 1) n (λ k m. put n m i k plus-zero) l
-unfolding clearAfter
-clear-is n i l = refl
+loop-again c = (counting-turn (c .before .before .before .before .before .loop .inv .0) (search needs) (c .before .before .put .ensures), search needs)
 
 returns : tie.Need-returns Inv-loop μ-loop
-returns c =
-    let l = c .before .loop in
-    loop-end _ _ _ _ _ _ (l .inv .1) (search needs) (l .inv .3) ∙ sym (clear-is _ _ _)
+unfolding clearAfter
+returns c = search loops
 
 pub clear-after-spec : {M : Type 1} → statement M
-clear-after-spec =
-    tie.close
-    (tie.spec
-    Inv-loop
-    μ-loop
-    add-a
-    loop-holds
-    put-requires
-    add-k
-    loop-less
-    loop-again
-    same-length
-    returns)
+clear-after-spec = tie.close (tie.spec Inv-loop μ-loop (search needs) (λ c. (counting-start (search needs), search needs)) (search needs) (search needs) (search needs) loop-again (search needs) returns)

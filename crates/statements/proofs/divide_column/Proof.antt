@@ -1,3 +1,4 @@
+-- `divide_column` meets its contract.
 use mathlib.Core.Path.{_≡_, refl}
 use Prim.Native.Nat.{ℕ, _+_, _-_, _≤_}
 use native.Mathlib.Omega.{arith}
@@ -6,7 +7,7 @@ use lib.Ieee.{Float, nan}
 use Rattle.arithmetic.specs.Double.{_⊘_}
 use Rattle.matrix.specs.Matrix.{at}
 use Rattle.methods.specs.Elimination.{ColumnWritten}
-use Rattle.methods.proofs.StatementLaws.{Written, written-more}
+use Rattle.matrix.proofs.Filled.{Written, written-more}
 use Rattle.methods.proofs.Rows.{cells-start, cells-turn, cells-end}
 use borrow.Author.Needs.{needs}
 use Rattle.statements.proofs.divide_column.Statement.{statement}
@@ -19,44 +20,8 @@ Inv-loop l₀ n j r column₀ ok₀ a i₀ l column ok i =
 abbrev μ-loop : tie.MeasureT-loop
 μ-loop l₀ n j r column₀ ok₀ a i₀ l column ok i = n - i
 
-add-a : tie.Need-add-a Inv-loop μ-loop
-add-a c = search needs
-
 loop-holds : tie.Need-loop-holds Inv-loop μ-loop
 loop-holds c = (search needs, search needs, refl, refl, cells-start _ _ _ _ _ _ (c .before .before .pre .0 .len), λ x p q. absurd (omega arith))
-
-cell-requires : tie.Need-cell-requires Inv-loop μ-loop
-cell-requires c κs = search needs
-
-mul-v : tie.Need-mul-v Inv-loop μ-loop
-mul-v c = search needs
-
-slice-read-v : tie.Need-slice-read-v Inv-loop μ-loop
-slice-read-v c = search needs
-
-mul-l : tie.Need-mul-l Inv-loop μ-loop
-mul-l c = search needs
-
-slice-write-l : tie.Need-slice-write-l Inv-loop μ-loop
-slice-write-l c = search needs
-
-mul-column : tie.Need-mul-column Inv-loop μ-loop
-mul-column c = search needs
-
-slice-write-column : tie.Need-slice-write-column Inv-loop μ-loop
-slice-write-column c = search needs
-
-finite-requires : tie.Need-finite-requires Inv-loop μ-loop
-finite-requires c κs = search needs
-
-both-requires : tie.Need-both-requires Inv-loop μ-loop
-both-requires c κs = search needs
-
-add-i : tie.Need-add-i Inv-loop μ-loop
-add-i c = search needs
-
-loop-less : tie.Need-loop-less Inv-loop μ-loop
-loop-less c = search needs
 
 loop-again : tie.Need-loop-again Inv-loop μ-loop
 loop-again c =
@@ -67,37 +32,10 @@ loop-again c =
     let T = cells-turn (a .n) (a .j + 1) (λ x. x) (λ x. a .j) f (a .l .now) (λ x y u w. u) (l .i) (l .inv .0) (omega arith) (λ x p. omega arith) (q .result) (l .l) (λ z. z ⊘ a .r) (l .ok) (c .both .result) (q .ensures .0) refl (l .inv .4) (rw (c .both .ensures, c .before .finite .ensures)) in
     (search needs, search needs, simp length-set (l .inv .2), simp length-set (l .inv .3), T .1, written-more nan f (a .j + 1) (l .i) (l .column) _ (omega arith) (T .0) (l .inv .5))
 
-same-length : tie.Need-same-length Inv-loop μ-loop
-same-length c = search needs
-
-same-length-2 : tie.Need-same-length-2 Inv-loop μ-loop
-same-length-2 c = search needs
-
 returns : tie.Need-returns Inv-loop μ-loop
 returns c =
     let l = c .before .loop in
     (cells-end _ _ _ _ _ _ _ _ _ _ (l .inv .1) (omega arith) (l .inv .4), λ x p q. l .inv .5 x p (omega arith))
 
 pub divide-column-spec : {M : Type 1} → statement M
-divide-column-spec =
-    tie.close
-    (tie.spec
-    Inv-loop
-    μ-loop
-    add-a
-    loop-holds
-    cell-requires
-    mul-v
-    slice-read-v
-    mul-l
-    slice-write-l
-    mul-column
-    slice-write-column
-    finite-requires
-    both-requires
-    add-i
-    loop-less
-    loop-again
-    same-length
-    same-length-2
-    returns)
+divide-column-spec = tie.close (tie.spec Inv-loop μ-loop (λ c. search needs) loop-holds (λ c κs. search needs) (λ c. search needs) (λ c. search needs) (λ c. search needs) (λ c. search needs) (λ c. search needs) (λ c. search needs) (λ c κs. search needs) (λ c κs. search needs) (λ c. search needs) (λ c. search needs) loop-again (λ c. search needs) (λ c. search needs) returns)

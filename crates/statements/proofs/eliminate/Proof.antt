@@ -1,42 +1,10 @@
+-- `eliminate` meets its contract.
 use mathlib.Core.Path.{ap, _∙_}
 use Rattle.arithmetic.specs.Sqrt.{sqrt}
 use Rattle.methods.proofs.Rows.{rows-eliminate}
 use borrow.Author.Needs.{needs}
 use Rattle.statements.proofs.eliminate.Statement.{statement}
 use Rattle.statements.proofs.eliminate.Tie as tie
-
-get-requires : tie.Need-get-requires
-get-requires c κs = search needs
-
-sqrt-requires : tie.Need-sqrt-requires
-sqrt-requires c κs = search needs
-
-put-requires : tie.Need-put-requires
-put-requires c κs = search needs
-
-slice-aggregate-divide-column : tie.Need-slice-aggregate-divide-column
-slice-aggregate-divide-column c = search needs
-
-divide-column-requires : tie.Need-divide-column-requires
-divide-column-requires c κs = search needs
-
-slice-aggregate-eliminate-rows : tie.Need-slice-aggregate-eliminate-rows
-slice-aggregate-eliminate-rows c = search needs
-
-eliminate-rows-requires : tie.Need-eliminate-rows-requires
-eliminate-rows-requires c κs = search needs
-
-finite-requires : tie.Need-finite-requires
-finite-requires c κs = search needs
-
-both-requires : tie.Need-both-requires
-both-requires c κs = search needs
-
-both-requires-2 : tie.Need-both-requires-2
-both-requires-2 c κs = search needs
-
-same-length : tie.Need-same-length
-same-length c = search needs
 
 returns : tie.Need-returns
 returns c =
@@ -51,18 +19,4 @@ returns c =
     (E .0, c .both2 .ensures ∙ rw (c .before .both .ensures, c .before .before .finite .ensures) (E .1))
 
 pub eliminate-spec : {M : Type 1} → statement M
-eliminate-spec =
-    tie.close
-    (tie.spec
-    get-requires
-    sqrt-requires
-    put-requires
-    slice-aggregate-divide-column
-    divide-column-requires
-    slice-aggregate-eliminate-rows
-    eliminate-rows-requires
-    finite-requires
-    both-requires
-    both-requires-2
-    same-length
-    returns)
+eliminate-spec = tie.close (tie.spec (λ c κs. search needs) (λ c κs. search needs) (λ c κs. search needs) (λ c. search needs) (λ c κs. search needs) (λ c. search needs) (λ c κs. search needs) (λ c κs. search needs) (λ c κs. search needs) (λ c κs. search needs) (λ c. search needs) returns)

@@ -1,3 +1,4 @@
+-- `eliminate_rows` meets its contract.
 use mathlib.Core.Path.{_≡_, refl}
 use Prim.Native.Nat.{_-_, _≤_, _<_}
 use native.Mathlib.Omega.{arith}
@@ -14,23 +15,8 @@ Inv-loop l₀ n j column ok₀ a i₀ l ok i = (j < i) × (i ≤ n) × (length l
 abbrev μ-loop : tie.MeasureT-loop
 μ-loop l₀ n j column ok₀ a i₀ l ok i = n - i
 
-add-a : tie.Need-add-a Inv-loop μ-loop
-add-a c = search needs
-
 loop-holds : tie.Need-loop-holds Inv-loop μ-loop
 loop-holds c = (omega arith, search needs, refl, rows-start _ _ _ _ (c .before .before .pre .0 .len))
-
-subtract-multiple-requires : tie.Need-subtract-multiple-requires Inv-loop μ-loop
-subtract-multiple-requires c κs = search needs
-
-both-requires : tie.Need-both-requires Inv-loop μ-loop
-both-requires c κs = search needs
-
-add-i : tie.Need-add-i Inv-loop μ-loop
-add-i c = search needs
-
-loop-less : tie.Need-loop-less Inv-loop μ-loop
-loop-less c = search needs
 
 loop-again : tie.Need-loop-again Inv-loop μ-loop
 loop-again c =
@@ -38,26 +24,10 @@ loop-again c =
     let l = s .before .before .before .loop in
     (omega arith, search needs, search needs, rows-more _ _ _ _ (l .i) (l .l) _ (l .ok) (l .inv .0) (omega arith) (l .inv .3) _ _ (s .subtract-multiple .ensures) (c .both .ensures))
 
-same-length : tie.Need-same-length Inv-loop μ-loop
-same-length c = search needs
-
 returns : tie.Need-returns Inv-loop μ-loop
 returns c =
     let l = c .before .loop in
     rows-end _ _ _ _ _ _ _ (l .inv .1) (omega arith) (l .inv .3)
 
 pub eliminate-rows-spec : {M : Type 1} → statement M
-eliminate-rows-spec =
-    tie.close
-    (tie.spec
-    Inv-loop
-    μ-loop
-    add-a
-    loop-holds
-    subtract-multiple-requires
-    both-requires
-    add-i
-    loop-less
-    loop-again
-    same-length
-    returns)
+eliminate-rows-spec = tie.close (tie.spec Inv-loop μ-loop (λ c. search needs) loop-holds (λ c κs. search needs) (λ c κs. search needs) (λ c. search needs) (λ c. search needs) loop-again (λ c. search needs) returns)

@@ -1,3 +1,4 @@
+-- `larger_magnitude` meets its contract.
 use mathlib.Core.Path.{_≡_}
 use mathlib.Core.Bool.{true, false}
 use lib.Ieee.{Float, lt}
@@ -6,9 +7,6 @@ use borrow.Author.Needs.{needs}
 use Rattle.methods.specs.Statements.{largerMagnitude}
 use Rattle.statements.proofs.larger_magnitude.Statement.{statement}
 use Rattle.statements.proofs.larger_magnitude.Tie as tie
-
-abs-requires : tie.Need-abs-requires
-abs-requires c κs = search needs
 
 larger : (acc x a : Float) → a ≡ abs x → lt acc a ≡ true → a ≡ largerMagnitude acc x
 unfolding largerMagnitude
@@ -25,4 +23,4 @@ returns-2 : tie.Need-returns-2
 returns-2 c = not-larger _ _ _ (c .before .abs .ensures) (c .if1 .left)
 
 pub larger-magnitude-spec : {M : Type 1} → statement M
-larger-magnitude-spec = tie.close (tie.spec abs-requires returns returns-2)
+larger-magnitude-spec = tie.close (tie.spec (λ c κs. search needs) returns returns-2)

@@ -1,9 +1,11 @@
+-- `lower_triangle` meets its contract.
 use mathlib.Core.Path.{_≡_, refl, sym, _∙_}
 use mathlib.Core.List.{List}
 use Prim.Native.Nat.{ℕ, _-_, _≤_, zero-le}
 use lib.ListN.{length}
 use lib.Ieee.{Float}
-use Rattle.arithmetic.specs.Loop.{range, loop-start, loop-turn, loop-end}
+use Rattle.arithmetic.specs.Loop.{range}
+use Rattle.arithmetic.proofs.LoopLaws.{loop-start, loop-turn, loop-end}
 use borrow.Author.Needs.{needs}
 use Rattle.methods.specs.Statements.{clearAfter, lowerTriangle}
 use Rattle.statements.proofs.lower_triangle.Statement.{statement}
@@ -15,28 +17,13 @@ Inv-loop l₀ n b i₀ l i = (i ≤ b) × (length l ≡ length l₀) × (l ≡ r
 abbrev μ-loop : tie.MeasureT-loop
 μ-loop l₀ n b i₀ l i = b - i
 
-sub-b : tie.Need-sub-b Inv-loop μ-loop
-sub-b c = search needs
-
 loop-holds : tie.Need-loop-holds Inv-loop μ-loop
 loop-holds c = (search needs, refl, loop-start _ _ _)
-
-clear-after-requires : tie.Need-clear-after-requires Inv-loop μ-loop
-clear-after-requires c κs = search needs
-
-add-i : tie.Need-add-i Inv-loop μ-loop
-add-i c = search needs
-
-loop-less : tie.Need-loop-less Inv-loop μ-loop
-loop-less c = search needs
 
 loop-again : tie.Need-loop-again Inv-loop μ-loop
 loop-again c =
     let l = c .before .before .before .before .before .loop in
     (search needs, search needs, loop-turn 0 _ _ _ _ _ zero-le (l .inv .2) (c .before .before .clear-after .ensures))
-
-same-length : tie.Need-same-length Inv-loop μ-loop
-same-length c = search needs
 
 triangle-is : (n : ℕ) (l : List Float) → lowerTriangle n l ≡ range 0 (n - 1) (clearAfter n) l
 unfolding lowerTriangle
@@ -48,16 +35,4 @@ returns c =
     loop-end 0 _ _ _ _ _ (l .inv .0) (search needs) (l .inv .2) ∙ sym (triangle-is _ _)
 
 pub lower-triangle-spec : {M : Type 1} → statement M
-lower-triangle-spec =
-    tie.close
-    (tie.spec
-    Inv-loop
-    μ-loop
-    sub-b
-    loop-holds
-    clear-after-requires
-    add-i
-    loop-less
-    loop-again
-    same-length
-    returns)
+lower-triangle-spec = tie.close (tie.spec Inv-loop μ-loop (λ c. search needs) loop-holds (λ c κs. search needs) (λ c. search needs) (λ c. search needs) loop-again (λ c. search needs) returns)

@@ -1,19 +1,8 @@
+-- `pivot_matrix` meets its contract.
 use borrow.Author.Needs.{needs}
 use Rattle.methods.proofs.StatementLaws.{matrix-pivoted, matrix-kept}
 use Rattle.statements.proofs.pivot_matrix.Statement.{statement}
 use Rattle.statements.proofs.pivot_matrix.Tie as tie
-
-add-q : tie.Need-add-q
-add-q c = search needs
-
-swap-rows-requires : tie.Need-swap-rows-requires
-swap-rows-requires c κs = search needs
-
-swap-columns-requires : tie.Need-swap-columns-requires
-swap-columns-requires c κs = search needs
-
-same-length : tie.Need-same-length
-same-length c = search needs
 
 returns : tie.Need-returns
 returns c =
@@ -27,4 +16,4 @@ returns-2 c = matrix-kept _ _ _ _ (c .if1 .left)
 pub pivot-matrix-spec : {M : Type 1} → statement M
 pivot-matrix-spec =
     tie.close
-    (tie.spec add-q swap-rows-requires swap-columns-requires same-length returns returns-2)
+    (tie.spec (λ c. search needs) (λ c κs. search needs) (λ c κs. search needs) (λ c. search needs) returns returns-2)

@@ -1,3 +1,4 @@
+-- `double::finite` meets its contract.
 use Rattle.arithmetic.proofs.Operand.{finite-difference}
 use Rattle.arithmetic.proofs.double.finite.Statement.{statement}
 use Rattle.arithmetic.proofs.double.finite.Tie as tie

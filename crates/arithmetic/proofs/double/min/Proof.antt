@@ -1,3 +1,4 @@
+-- `double::min` meets its contract.
 use borrow.Author.Needs.{needs}
 use Rattle.arithmetic.proofs.double.min.Statement.{statement}
 use Rattle.arithmetic.proofs.double.min.Tie as tie
@@ -5,11 +6,8 @@ use Rattle.arithmetic.proofs.double.min.Tie as tie
 returns : tie.Need-returns
 returns c = rw (c .if1 .taken)
 
-number-or-requires : tie.Need-number-or-requires
-number-or-requires c κs = search needs
-
 returns-2 : tie.Need-returns-2
 returns-2 c = rw (c .before .if1 .left, c .number-or .ensures)
 
 pub min-spec : {M : Type 1} → statement M
-min-spec = tie.close (tie.spec returns number-or-requires returns-2)
+min-spec = tie.close (tie.spec returns (λ c κs. search needs) returns-2)

@@ -1,3 +1,4 @@
+-- `double::number_or` meets its contract.
 use mathlib.Core.Path.{sym, _∙_}
 use Rattle.arithmetic.proofs.Operand.{nan-test}
 use Rattle.arithmetic.proofs.double.number_or.Statement.{statement}

@@ -1,3 +1,4 @@
+-- `double::unsigned_zero` meets its contract.
 use Rattle.arithmetic.proofs.double.unsigned_zero.Statement.{statement}
 use Rattle.arithmetic.proofs.double.unsigned_zero.Tie as tie
 

@@ -1,26 +1,22 @@
+-- `sqrt::checked_sqrt` meets its contract.
 use borrow.Author.Needs.{needs}
 use mathlib.Core.Path.{sym}
+use Rattle.arithmetic.specs.Outcome.{_then_}
 use Rattle.arithmetic.specs.Sqrt.{checked-sqrt}
 use Rattle.arithmetic.proofs.sqrt.checked_sqrt.Statement.{statement}
 use Rattle.arithmetic.proofs.sqrt.checked_sqrt.Tie as tie
 
-finite-requires : tie.Need-finite-requires
-finite-requires c κs = search needs
-
 returns : tie.Need-returns
-unfolding checked-sqrt
+unfolding checked-sqrt _then_
 returns c = rw (sym (c .before .finite .ensures), c .if1 .taken)
 
 returns-2 : tie.Need-returns-2
-unfolding checked-sqrt
+unfolding checked-sqrt _then_
 returns-2 c = rw (sym (c .before .before .finite .ensures), c .before .if1 .left, c .if2 .taken)
 
-sqrt-requires : tie.Need-sqrt-requires
-sqrt-requires c κs = search needs
-
 returns-3 : tie.Need-returns-3
-unfolding checked-sqrt
+unfolding checked-sqrt _then_
 returns-3 c = rw (sym (c .before .before .before .finite .ensures), c .before .before .if1 .left, c .before .if2 .left, c .sqrt .ensures)
 
 pub checked-sqrt-spec : {M : Type 1} → statement M
-checked-sqrt-spec = tie.close (tie.spec finite-requires returns returns-2 sqrt-requires returns-3)
+checked-sqrt-spec = tie.close (tie.spec (λ c κs. search needs) returns returns-2 (λ c κs. search needs) returns-3)

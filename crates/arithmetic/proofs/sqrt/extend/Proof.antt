@@ -1,3 +1,4 @@
+-- `sqrt::extend` meets its contract.
 use borrow.Author.Needs.{needs}
 use native.Mathlib.Omega.{arith}
 use Prim.Native.Nat.{ℕ, _+_, _-_, _*_, _≤_, _<_}
@@ -25,18 +26,6 @@ less N r u q p e h l =
 
 mul-n : tie.Need-mul-n
 mul-n c = omega (arith, known c)
-
-mul-q : tie.Need-mul-q
-mul-q c = search needs
-
-div-q : tie.Need-div-q
-div-q c = search needs
-
-mul-u : tie.Need-mul-u
-mul-u c = search needs
-
-rem-u : tie.Need-rem-u
-rem-u c = search needs
 
 mul-u-2 : tie.Need-mul-u-2
 mul-u-2 c = omega (arith, known c)
@@ -78,22 +67,4 @@ returns-2 c =
     less _ (a .s * a .b + quotient (a .s) (a .d) (a .b)) (modulus (a .s) (a .d) (a .b) * a .b) (quotient (a .s) (a .d) (a .b)) (omega arith) (total (a .s) (a .d) (a .b)) (c .if1 .left) (omega arith)
 
 pub extend-spec : {M : Type 1} → statement M
-extend-spec =
-    tie.close
-    (tie.spec
-    mul-n
-    mul-q
-    div-q
-    mul-u
-    rem-u
-    mul-u-2
-    mul-r
-    add-r
-    mul-sq
-    returns
-    sub-t10
-    mul-t9
-    sub-t13
-    add-t14
-    sub-t15
-    returns-2)
+extend-spec = tie.close (tie.spec mul-n (λ c. search needs) (λ c. search needs) (λ c. search needs) (λ c. search needs) mul-u-2 mul-r add-r mul-sq returns sub-t10 mul-t9 sub-t13 add-t14 sub-t15 returns-2)

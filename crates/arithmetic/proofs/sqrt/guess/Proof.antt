@@ -1,3 +1,4 @@
+-- `sqrt::guess` meets its contract.
 use borrow.Author.Needs.{needs}
 use Prim.Native.Nat.{_+_, _/_}
 use native.Mathlib.Omega.{arith}
@@ -5,17 +6,8 @@ use native.Mathlib.Nat.{div-le-self}
 use Rattle.arithmetic.proofs.sqrt.guess.Statement.{statement}
 use Rattle.arithmetic.proofs.sqrt.guess.Tie as tie
 
-line-requires : tie.Need-line-requires
-line-requires c κs = search needs
-
-div-t : tie.Need-div-t
-div-t c = search needs
-
 add-t : tie.Need-add-t
 add-t c = omega (arith, div-le-self (c .before .args .a) (c .line .result))
-
-div-g : tie.Need-div-g
-div-g c = search needs
 
 add-g : tie.Need-add-g
 add-g c =
@@ -23,11 +15,5 @@ add-g c =
     let s = c .line .result in
     omega (arith, div-le-self a s, div-le-self a ((s + a / s) / 2))
 
-returns : tie.Need-returns
-returns c = search needs
-
-returns-2 : tie.Need-returns-2
-returns-2 c = search needs
-
 pub guess-spec : {M : Type 1} → statement M
-guess-spec = tie.close (tie.spec line-requires div-t add-t div-g add-g returns returns-2)
+guess-spec = tie.close (tie.spec (λ c κs. search needs) (λ c. search needs) add-t (λ c. search needs) add-g (λ c. search needs) (λ c. search needs))

@@ -1,21 +1,10 @@
+-- `sqrt::round` meets its contract.
 use borrow.Author.Needs.{needs}
 use Prim.Native.Nat.{_+_, _*_, _/_, _%_}
 use native.Mathlib.Omega.{arith}
 use Rattle.arithmetic.proofs.Written.{writes, writes-no-nan, cut-digit, half-digit, bits-most}
 use Rattle.arithmetic.proofs.sqrt.round.Statement.{statement}
 use Rattle.arithmetic.proofs.sqrt.round.Tie as tie
-
-add-s : tie.Need-add-s
-add-s c = search needs
-
-mul-s : tie.Need-mul-s
-mul-s c = search needs
-
-add-result : tie.Need-add-result
-add-result c = search needs
-
-add-result-2 : tie.Need-add-result-2
-add-result-2 c = search needs
 
 float-from-bits-result : tie.Need-float-from-bits-result
 float-from-bits-result c =
@@ -47,17 +36,4 @@ returns-2 c =
     writes (p .whole) (p .cut) (p .scale) (p .whole / 2 + p .whole % 2 * (p .whole / 2 % 2)) (omega arith) (omega arith) (omega arith) (half-digit (p .whole) (p .cut) (c .if1 .left)) (omega arith) (omega (arith, bits-most (p .whole)))
 
 pub round-spec : {M : Type 1} → statement M
-round-spec =
-    tie.close
-    (tie.spec
-    add-s
-    mul-s
-    add-result
-    add-result-2
-    float-from-bits-result
-    returns
-    mul-result
-    add-result-3
-    add-result-4
-    float-from-bits-result-2
-    returns-2)
+round-spec = tie.close (tie.spec (λ c. search needs) (λ c. search needs) (λ c. search needs) (λ c. search needs) float-from-bits-result returns mul-result add-result-3 add-result-4 float-from-bits-result-2 returns-2)

@@ -1,3 +1,4 @@
+-- `sqrt::split` meets its contract.
 use borrow.Author.Needs.{needs}
 use mathlib.Core.Path.{sym, subst}
 use lib.Dec.{T}
@@ -15,14 +16,8 @@ float-to-bits-b c = no-nan (c .args .x) (c .pre)
 returns : tie.Need-returns
 returns c = subnormal (c .before .args .x) (held (c .before)) (c .before .pre) (c .if1 .taken)
 
-add-t6 : tie.Need-add-t6
-add-t6 c = search needs
-
-sub-t7 : tie.Need-sub-t7
-sub-t7 c = search needs
-
 returns-2 : tie.Need-returns-2
 returns-2 c = normal (c .before .args .x) (held (c .before)) (c .before .pre) (c .if1 .left)
 
 pub split-spec : {M : Type 1} → statement M
-split-spec = tie.close (tie.spec float-to-bits-b returns add-t6 sub-t7 returns-2)
+split-spec = tie.close (tie.spec float-to-bits-b returns (λ c. search needs) (λ c. search needs) returns-2)

@@ -1,3 +1,4 @@
+-- `sqrt::sqrt` meets its contract.
 use borrow.Author.Needs.{needs}
 use mathlib.Core.Path.{_∙_}
 use lib.Ieee.{ofBits, div}
@@ -18,12 +19,6 @@ unfolding ofBits div
 split-requires c κs =
     positive-rest (rest-value (c .before .before .before .args .x) (c .before .if2 .left) (c .before .before .if1 .left)) (c .if3 .taken)
 
-unrounded-requires : tie.Need-unrounded-requires
-unrounded-requires c κs = search needs
-
-round-requires : tie.Need-round-requires
-round-requires c κs = search needs
-
 returns-3 : tie.Need-returns-3
 returns-3 c =
     let t = c .before .before .before in
@@ -37,13 +32,4 @@ unfolding ofBits div
 returns-4 c = other-root (rest-value (c .before .before .before .args .x) (c .before .if2 .left) (c .before .before .if1 .left)) (c .if3 .left)
 
 pub sqrt-spec : {M : Type 1} → statement M
-sqrt-spec =
-    tie.close
-    (tie.spec
-    returns
-    returns-2
-    split-requires
-    unrounded-requires
-    round-requires
-    returns-3
-    returns-4)
+sqrt-spec = tie.close (tie.spec returns returns-2 split-requires (λ c κs. search needs) (λ c κs. search needs) returns-3 returns-4)

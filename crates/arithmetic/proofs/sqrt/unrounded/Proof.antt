@@ -1,3 +1,4 @@
+-- `sqrt::unrounded` meets its contract.
 use borrow.Author.Needs.{needs}
 use native.Mathlib.Omega.{arith}
 use lib.Count.{leadingZeros}
@@ -11,9 +12,6 @@ sh c = shifted (c .args .significand) (c .pre .some) (c .pre .digits)
 cast-z : tie.Need-cast-z
 cast-z c = omega (arith, sh c)
 
-add-p : tie.Need-add-p
-add-p c = search needs
-
 sub-p : tie.Need-sub-p
 sub-p c = omega (arith, sh c)
 
@@ -22,9 +20,6 @@ sub-a c = omega (arith, sh c)
 
 shl-a : tie.Need-shl-a
 shl-a c = omega (arith, sh c)
-
-add-a : tie.Need-add-a
-add-a c = search needs
 
 mul-a : tie.Need-mul-a
 mul-a c =
@@ -47,4 +42,4 @@ returns c =
 
 pub unrounded-spec : {M : Type 1} → statement M
 unrounded-spec =
-    tie.close (tie.spec cast-z add-p sub-p sub-a shl-a add-a mul-a long-root-requires returns)
+    tie.close (tie.spec cast-z (λ c. search needs) sub-p sub-a shl-a (λ c. search needs) mul-a long-root-requires returns)

@@ -1,14 +1,9 @@
+-- `factor::millracer_factor` meets its contract.
 use borrow.Author.Needs.{needs}
 use mathlib.Core.Path.{ap}
 use Rattle.exports.specs.Exports.{factorExport}
 use Rattle.exports.proofs.factor.millracer_factor.Statement.{statement}
 use Rattle.exports.proofs.factor.millracer_factor.Tie as tie
-
-factor-requires : tie.Need-factor-requires
-factor-requires c κs = search needs
-
-of-requires : tie.Need-of-requires
-of-requires c κs = search needs
 
 same-length : tie.Need-same-length
 same-length c = c .before .before .before .before .before .before .before .before .l .given
@@ -26,13 +21,4 @@ returns : tie.Need-returns
 returns c = rw (c .of .ensures) (ap factorExport (c .before .before .before .before .before .before .before .before .before .factor .ensures))
 
 pub millracer-factor-spec : {M : Type 1} → statement M
-millracer-factor-spec =
-    tie.close
-    (tie.spec
-    factor-requires
-    of-requires
-    same-length
-    same-length-2
-    same-length-3
-    same-length-4
-    returns)
+millracer-factor-spec = tie.close (tie.spec (λ c κs. search needs) (λ c κs. search needs) same-length same-length-2 same-length-3 same-length-4 returns)

@@ -1,16 +1,11 @@
+-- `helpers::millracer_index_of_largest_abs` meets its contract.
 use borrow.Author.Needs.{needs}
 use Rattle.exports.proofs.helpers.millracer_index_of_largest_abs.Statement.{statement}
 use Rattle.exports.proofs.helpers.millracer_index_of_largest_abs.Tie as tie
-
-checked-index-of-largest-abs-requires : tie.Need-checked-index-of-largest-abs-requires
-checked-index-of-largest-abs-requires c κs = search needs
-
-of-requires : tie.Need-of-requires
-of-requires c κs = search needs
 
 returns : tie.Need-returns
 returns c = rw (c .of .ensures, c .before .checked-index-of-largest-abs .ensures)
 
 pub millracer-index-of-largest-abs-spec : {M : Type 1} → statement M
 millracer-index-of-largest-abs-spec =
-    tie.close (tie.spec checked-index-of-largest-abs-requires of-requires returns)
+    tie.close (tie.spec (λ c κs. search needs) (λ c κs. search needs) returns)

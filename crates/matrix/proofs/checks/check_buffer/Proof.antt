@@ -1,3 +1,4 @@
+-- `check_buffer` meets its contract.
 use borrow.Author.Tests.{eq-eqb, ne-eqb}
 use Rattle.matrix.proofs.checks.check_buffer.Statement.{statement}
 use Rattle.matrix.proofs.checks.check_buffer.Tie as tie

@@ -1,3 +1,4 @@
+-- `check_index` meets its contract.
 use borrow.Author.Tests.{le-leb, lt-leb}
 use Rattle.matrix.proofs.checks.check_index.Statement.{statement}
 use Rattle.matrix.proofs.checks.check_index.Tie as tie

@@ -1,17 +1,15 @@
-use native.Mathlib.Omega.{arith}
-use borrow.Author.Tests.{eq-eqb, ne-eqb}
-use Rattle.matrix.specs.Matrix.{square-small}
+-- `check_matrix` meets its contract.
+use borrow.Author.Needs.{needs}
+use borrow.Author.Tests.{not-true, not-false}
+use mathlib.Core.Path.{sym, _∙_}
 use Rattle.matrix.proofs.checks.check_matrix.Statement.{statement}
 use Rattle.matrix.proofs.checks.check_matrix.Tie as tie
 
-mul-if1 : tie.Need-mul-if1
-mul-if1 c = omega (arith, square-small (c .args .n) (c .pre))
-
 returns : tie.Need-returns
-returns c = rw (ne-eqb _ _ (c .if1 .taken))
+returns c = rw (sym (c .before .is-square .ensures) ∙ not-true _ (c .if1 .taken))
 
 returns-2 : tie.Need-returns-2
-returns-2 c = rw (eq-eqb _ _ (c .if1 .left))
+returns-2 c = rw (sym (c .before .is-square .ensures) ∙ not-false _ (c .if1 .left))
 
 pub check-matrix-spec : {M : Type 1} → statement M
-check-matrix-spec = tie.close (tie.spec mul-if1 returns returns-2)
+check-matrix-spec = tie.close (tie.spec (search needs) returns returns-2)

@@ -1,3 +1,4 @@
+-- `check_size` meets its contract.
 use borrow.Author.Tests.{eq-eqb, ne-eqb, lt-ltb, le-ltb}
 use Rattle.matrix.proofs.checks.check_size.Statement.{statement}
 use Rattle.matrix.proofs.checks.check_size.Tie as tie

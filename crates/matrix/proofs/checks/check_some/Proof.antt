@@ -1,3 +1,4 @@
+-- `check_some` meets its contract.
 use borrow.Author.Tests.{eq-eqb, ne-eqb}
 use Rattle.matrix.proofs.checks.check_some.Statement.{statement}
 use Rattle.matrix.proofs.checks.check_some.Tie as tie

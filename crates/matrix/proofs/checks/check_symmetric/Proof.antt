@@ -1,3 +1,4 @@
+-- `check_symmetric` meets its contract: the loop over rows finds the first position in row order.
 use borrow.Author.Needs.{needs}
 use borrow.Author.Tests.{lt-ltb, le-ltb}
 use mathlib.Core.Bool.{Bool, true, false, cond}
@@ -10,9 +11,10 @@ use native.Mathlib.Numerals.{add-one}
 use native.Mathlib.Omega.{arith}
 use lib.Arith.{digits-div, digits-mod}
 use lib.Ieee.{Float}
-use Rattle.arithmetic.specs.First.{First, first, firstFrom, first-is, first-found, first-none}
+use Rattle.arithmetic.proofs.FirstLaws.{First, first-is, first-found, first-none}
+use Rattle.arithmetic.specs.First.{first, firstFrom}
 use Rattle.arithmetic.specs.declared.outcome.Outcome.the-variants.{Complete, Unsymmetric}
-use Rattle.matrix.specs.Matrix.{cell-lt}
+use Rattle.matrix.proofs.CellLaws.{cell-lt}
 use Rattle.matrix.specs.Checks.{unsymmetric, firstMismatch, firstUnsymmetric, check-symmetric}
 use Rattle.matrix.proofs.CheckLaws.{mismatch, unsymmetric-at}
 use Rattle.matrix.proofs.checks.check_symmetric.Statement.{statement}
@@ -83,20 +85,11 @@ abbrev μ-loop : tie.MeasureT-loop
 loop-holds : tie.Need-loop-holds Inv-loop μ-loop
 loop-holds c = (search needs, λ k h. absurd (omega arith))
 
-first-mismatch-requires : tie.Need-first-mismatch-requires Inv-loop μ-loop
-first-mismatch-requires c κs = search needs
-
 returns : tie.Need-returns Inv-loop μ-loop
 returns c =
     let t = c .before .before in
     let e = c .before .first-mismatch .ensures in
     rw e (found _ _ _ (t .loop-test .taken) (t .before .loop .inv .1) (rw e at (c .if1 .taken)))
-
-add-i : tie.Need-add-i Inv-loop μ-loop
-add-i c = search needs
-
-loop-less : tie.Need-loop-less Inv-loop μ-loop
-loop-less c = search needs
 
 loop-again : tie.Need-loop-again Inv-loop μ-loop
 loop-again c =
@@ -111,15 +104,4 @@ returns-2 c =
     none (a .n) (a .m .now) (rw e at (l .inv .1))
 
 pub check-symmetric-spec : {M : Type 1} → statement M
-check-symmetric-spec =
-    tie.close
-    (tie.spec
-    Inv-loop
-    μ-loop
-    loop-holds
-    first-mismatch-requires
-    returns
-    add-i
-    loop-less
-    loop-again
-    returns-2)
+check-symmetric-spec = tie.close (tie.spec Inv-loop μ-loop loop-holds (λ c κs. search needs) returns (search needs) (search needs) loop-again returns-2)

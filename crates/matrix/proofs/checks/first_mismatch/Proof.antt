@@ -1,3 +1,4 @@
+-- `first_mismatch` meets its contract: the loop has still to find the first column.
 use borrow.Author.Needs.{needs}
 use borrow.Author.Tests.{eq-eqb, ne-eqb}
 use mathlib.Core.Bool.{true, false, not}
@@ -5,7 +6,7 @@ use mathlib.Core.Path.{_≡_, refl, sym, _∙_}
 use Prim.Native.Nat.{_-_, _≤_}
 use lib.Ieee.{Float, binary64, toBits}
 use Rattle.arithmetic.specs.First.{firstFrom}
-use Rattle.arithmetic.specs.Order.{finite-not-nan}
+use Rattle.arithmetic.proofs.OrderLaws.{finite-not-nan}
 use Rattle.matrix.specs.Checks.{sameBits, firstMismatch}
 use Rattle.matrix.proofs.CheckLaws.{mismatch, search-found, search-turn, search-end}
 use Rattle.matrix.proofs.checks.first_mismatch.Statement.{statement}
@@ -23,20 +24,11 @@ Inv-loop m n i start j₀ j = (start ≤ j) × (j ≤ n) × (firstFrom (mismatch
 abbrev μ-loop : tie.MeasureT-loop
 μ-loop m n i start j₀ j = n - j
 
-add-start : tie.Need-add-start Inv-loop μ-loop
-add-start c = search needs
-
 loop-holds : tie.Need-loop-holds Inv-loop μ-loop
 loop-holds c = (search needs, search needs, refl)
 
-get-requires : tie.Need-get-requires Inv-loop μ-loop
-get-requires c κs = search needs
-
 float-to-bits-if1 : tie.Need-float-to-bits-if1 Inv-loop μ-loop
 float-to-bits-if1 c = rw (c .get .ensures) (finite-not-nan _ (c .before .before .before .before .pre .1 .0 _ _ (search needs) (search needs)))
-
-get-requires-2 : tie.Need-get-requires-2 Inv-loop μ-loop
-get-requires-2 c κs = search needs
 
 float-to-bits-if1-2 : tie.Need-float-to-bits-if1-2 Inv-loop μ-loop
 float-to-bits-if1-2 c = rw (c .get2 .ensures) (finite-not-nan _ (c .before .before .before .before .before .pre .1 .0 _ _ (search needs) (search needs)))
@@ -46,12 +38,6 @@ unfolding firstMismatch
 returns c =
     let t = c .before .before .before in
     sym (t .before .loop .inv .2 ∙ search-found _ _ _ (t .loop-test .taken) (differ (c .before .before .get .ensures) (c .before .get2 .ensures) (c .if1 .taken)))
-
-add-j : tie.Need-add-j Inv-loop μ-loop
-add-j c = search needs
-
-loop-less : tie.Need-loop-less Inv-loop μ-loop
-loop-less c = search needs
 
 loop-again : tie.Need-loop-again Inv-loop μ-loop
 loop-again c =
@@ -63,19 +49,4 @@ unfolding firstMismatch
 returns-2 c = let l = c .before .loop in sym (l .inv .2 ∙ search-end _ _ _ (l .inv .1) (c .loop-test .left))
 
 pub first-mismatch-spec : {M : Type 1} → statement M
-first-mismatch-spec =
-    tie.close
-    (tie.spec
-    Inv-loop
-    μ-loop
-    add-start
-    loop-holds
-    get-requires
-    float-to-bits-if1
-    get-requires-2
-    float-to-bits-if1-2
-    returns
-    add-j
-    loop-less
-    loop-again
-    returns-2)
+first-mismatch-spec = tie.close (tie.spec Inv-loop μ-loop (search needs) loop-holds (search needs) float-to-bits-if1 (search needs) float-to-bits-if1-2 returns (search needs) (search needs) loop-again returns-2)

@@ -1,7 +1,8 @@
+-- cell lies within the matrix.
 use mathlib.Core.Path.{refl}
 use Prim.Native.Nat.{_+_, _*_, _<_}
 use native.Mathlib.Omega.{arith}
-use Rattle.matrix.specs.Matrix.{cell-lt, square-small}
+use Rattle.matrix.proofs.CellLaws.{cell-lt, square-small}
 use Rattle.matrix.proofs.entries.cell.Statement.{statement}
 use Rattle.matrix.proofs.entries.cell.Tie as tie
 

@@ -1,18 +1,10 @@
+-- get reads the cell.
 use borrow.Author.Needs.{needs}
 use Rattle.matrix.proofs.entries.get.Statement.{statement}
 use Rattle.matrix.proofs.entries.get.Tie as tie
-
-cell-requires : tie.Need-cell-requires
-cell-requires c κs = search needs
-
-mul-result : tie.Need-mul-result
-mul-result c = search needs
-
-shared-slice-read-result : tie.Need-shared-slice-read-result
-shared-slice-read-result c = search needs
 
 returns : tie.Need-returns
 returns c = rw (c .before .cell .ensures .0)
 
 pub get-spec : {M : Type 1} → statement M
-get-spec = tie.close (tie.spec cell-requires mul-result shared-slice-read-result returns)
+get-spec = tie.close (tie.spec (search needs) (search needs) (search needs) returns)

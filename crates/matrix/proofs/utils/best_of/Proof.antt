@@ -1,3 +1,4 @@
+-- `utils::best_of` meets its contract.
 use mathlib.Core.Path.{_≡_}
 use mathlib.Core.Bool.{Bool}
 use mathlib.Core.List.{List}
@@ -5,7 +6,8 @@ use Prim.Native.Nat.{_-_, _≤_, zero-le}
 use borrow.Author.Needs.{needs}
 use lib.ListN.{length, getD}
 use lib.Ieee.{Float, nan}
-use Rattle.arithmetic.specs.Loop.{range, loop-start, loop-turn, loop-end}
+use Rattle.arithmetic.specs.Loop.{range}
+use Rattle.arithmetic.proofs.LoopLaws.{loop-start, loop-turn, loop-end}
 use Rattle.matrix.specs.Search.{key, look, bestOf}
 use Rattle.matrix.specs.declared.utils.Best.{Best}
 use Rattle.matrix.proofs.utils.best_of.Statement.{statement}
@@ -17,32 +19,8 @@ Inv-loop magnitude c s₀ n i₀ s i = (i ≤ n) × (s ≡ range 0 i (look magni
 abbrev μ-loop : tie.MeasureT-loop
 μ-loop magnitude c s₀ n i₀ s i = n - i
 
-shared-slice-read-key : tie.Need-shared-slice-read-key Inv-loop μ-loop
-shared-slice-read-key c = search needs
-
-key-requires : tie.Need-key-requires Inv-loop μ-loop
-key-requires c κs = search needs
-
 loop-holds : tie.Need-loop-holds Inv-loop μ-loop
 loop-holds c = (search needs, loop-start _ _ _)
-
-mul-key : tie.Need-mul-key Inv-loop μ-loop
-mul-key c = search needs
-
-shared-slice-read-key-2 : tie.Need-shared-slice-read-key-2 Inv-loop μ-loop
-shared-slice-read-key-2 c = search needs
-
-key-requires-2 : tie.Need-key-requires-2 Inv-loop μ-loop
-key-requires-2 c κs = search needs
-
-better-requires : tie.Need-better-requires Inv-loop μ-loop
-better-requires c κs = search needs
-
-add-i : tie.Need-add-i Inv-loop μ-loop
-add-i c = search needs
-
-loop-less : tie.Need-loop-less Inv-loop μ-loop
-loop-less c = search needs
 
 loop-again : tie.Need-loop-again Inv-loop μ-loop
 unfolding look
@@ -59,19 +37,4 @@ returns c =
     (loop-end 0 _ _ _ _ _ (c .before .loop .inv .0) (search needs) (c .before .loop .inv .1))
 
 pub best-of-spec : {M : Type 1} → statement M
-best-of-spec =
-    tie.close
-    (tie.spec
-    Inv-loop
-    μ-loop
-    shared-slice-read-key
-    key-requires
-    loop-holds
-    mul-key
-    shared-slice-read-key-2
-    key-requires-2
-    better-requires
-    add-i
-    loop-less
-    loop-again
-    returns)
+best-of-spec = tie.close (tie.spec Inv-loop μ-loop (λ c. search needs) (λ c κs. search needs) loop-holds (λ c. search needs) (λ c. search needs) (λ c κs. search needs) (λ c κs. search needs) (λ c. search needs) (λ c. search needs) loop-again returns)

@@ -1,3 +1,4 @@
+-- `utils::better` meets its contract.
 use Rattle.matrix.proofs.utils.better.Statement.{statement}
 use Rattle.matrix.proofs.utils.better.Tie as tie
 

@@ -1,20 +1,12 @@
+-- `checked_index_to_permutation_mat` meets its contract: written where its checks pass, untouched else.
 use borrow.Author.Needs.{needs}
 use Rattle.matrix.proofs.CheckLaws.{complete-accepted}
 use Rattle.matrix.proofs.CallLaws.{permutation-accepted, matrix-written, matrix-untouched}
 use Rattle.matrix.proofs.utils.checked_index_to_permutation_mat.Statement.{statement}
 use Rattle.matrix.proofs.utils.checked_index_to_permutation_mat.Tie as tie
 
-permutation-checks-requires : tie.Need-permutation-checks-requires
-permutation-checks-requires c κs = search needs
-
-complete-requires : tie.Need-complete-requires
-complete-requires c κs = search needs
-
 index-to-permutation-mat-requires : tie.Need-index-to-permutation-mat-requires
 index-to-permutation-mat-requires c κs = permutation-accepted _ _ (complete-accepted (c .before .before .before .permutation-checks .ensures) (c .before .before .complete .ensures) (c .before .if1 .taken))
-
-same-length : tie.Need-same-length
-same-length c = search needs
 
 returns : tie.Need-returns
 returns c = matrix-written (c .before .before .before .before .before .before .permutation-checks .ensures) (c .before .before .before .before .before .complete .ensures) _ _ _ (c .before .before .before .before .if1 .taken) (c .before .before .index-to-permutation-mat .ensures)
@@ -23,12 +15,4 @@ returns-2 : tie.Need-returns-2
 returns-2 c = matrix-untouched (c .before .before .permutation-checks .ensures) (c .before .complete .ensures) _ _ (c .if1 .left)
 
 pub checked-index-to-permutation-mat-spec : {M : Type 1} → statement M
-checked-index-to-permutation-mat-spec =
-    tie.close
-    (tie.spec
-    permutation-checks-requires
-    complete-requires
-    index-to-permutation-mat-requires
-    same-length
-    returns
-    returns-2)
+checked-index-to-permutation-mat-spec = tie.close (tie.spec (search needs) (search needs) index-to-permutation-mat-requires (search needs) returns returns-2)

@@ -1,3 +1,4 @@
+-- `checked_search` meets its contract: the index where its checks pass, 0 else.
 use mathlib.Core.Path.{_≡_}
 use mathlib.Core.Bool.{Bool, true, false}
 use mathlib.Core.List.{List}
@@ -12,12 +13,6 @@ use Rattle.matrix.proofs.CheckLaws.{complete-accepted, not-complete}
 use Rattle.matrix.proofs.CallLaws.{search-accepted}
 use Rattle.matrix.proofs.utils.checked_search.Statement.{statement}
 use Rattle.matrix.proofs.utils.checked_search.Tie as tie
-
-search-checks-requires : tie.Need-search-checks-requires
-search-checks-requires c κs = search needs
-
-complete-requires : tie.Need-complete-requires
-complete-requires c κs = search needs
 
 largest-requires : tie.Need-largest-requires
 largest-requires c κs = search-accepted _ (complete-accepted (c .before .before .search-checks .ensures) (c .before .complete .ensures) (c .if1 .taken))
@@ -36,6 +31,4 @@ returns-2 : tie.Need-returns-2
 returns-2 c = refused _ _ _ _ (c .before .before .search-checks .ensures) (c .before .complete .ensures) (c .if1 .left)
 
 pub checked-search-spec : {M : Type 1} → statement M
-checked-search-spec =
-    tie.close
-    (tie.spec search-checks-requires complete-requires largest-requires returns returns-2)
+checked-search-spec = tie.close (tie.spec (search needs) (search needs) largest-requires returns returns-2)

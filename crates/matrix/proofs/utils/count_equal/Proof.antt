@@ -1,8 +1,10 @@
+-- `utils::count_equal` meets its contract.
 use mathlib.Core.Path.{_≡_}
 use Prim.Native.Nat.{_-_, _≤_, zero-le}
 use native.Mathlib.Omega.{arith}
 use borrow.Author.Needs.{needs}
-use Rattle.arithmetic.specs.Loop.{range, loop-start, loop-turn, loop-end}
+use Rattle.arithmetic.specs.Loop.{range}
+use Rattle.arithmetic.proofs.LoopLaws.{loop-start, loop-turn, loop-end}
 use Rattle.matrix.specs.Search.{tally, countEqual}
 use Rattle.matrix.proofs.utils.count_equal.Statement.{statement}
 use Rattle.matrix.proofs.utils.count_equal.Tie as tie
@@ -16,24 +18,6 @@ abbrev μ-loop : tie.MeasureT-loop
 loop-holds : tie.Need-loop-holds Inv-loop μ-loop
 loop-holds c = (search needs, search needs, loop-start _ _ _)
 
-mul-key : tie.Need-mul-key Inv-loop μ-loop
-mul-key c = search needs
-
-shared-slice-read-key : tie.Need-shared-slice-read-key Inv-loop μ-loop
-shared-slice-read-key c = search needs
-
-key-requires : tie.Need-key-requires Inv-loop μ-loop
-key-requires c κs = search needs
-
-tally-requires : tie.Need-tally-requires Inv-loop μ-loop
-tally-requires c κs = search needs
-
-add-i : tie.Need-add-i Inv-loop μ-loop
-add-i c = search needs
-
-loop-less : tie.Need-loop-less Inv-loop μ-loop
-loop-less c = search needs
-
 loop-again : tie.Need-loop-again Inv-loop μ-loop
 unfolding tally
 loop-again c = (search needs, omega arith, loop-turn 0 _ _ _ _ _ zero-le (c .before .before .before .before .loop .inv .2) (rw (c .tally .ensures .0, c .before .key .ensures)))
@@ -45,17 +29,4 @@ returns c =
     loop-end 0 _ _ (tally (a .magnitude) (a .c .now) (a .x)) _ _ (c .before .loop .inv .0) (search needs) (c .before .loop .inv .2)
 
 pub count-equal-spec : {M : Type 1} → statement M
-count-equal-spec =
-    tie.close
-    (tie.spec
-    Inv-loop
-    μ-loop
-    loop-holds
-    mul-key
-    shared-slice-read-key
-    key-requires
-    tally-requires
-    add-i
-    loop-less
-    loop-again
-    returns)
+count-equal-spec = tie.close (tie.spec Inv-loop μ-loop loop-holds (λ c. search needs) (λ c. search needs) (λ c κs. search needs) (λ c κs. search needs) (λ c. search needs) (λ c. search needs) loop-again returns)

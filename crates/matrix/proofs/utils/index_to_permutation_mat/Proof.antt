@@ -1,10 +1,12 @@
+-- `utils::index_to_permutation_mat` meets its contract.
 use mathlib.Core.List.{List}
 use mathlib.Core.Path.{_≡_, refl}
 use Prim.Native.Nat.{ℕ, _*_, _-_, _≤_, zero-le}
 use borrow.Author.Needs.{needs}
 use lib.Ieee.{Float}
 use lib.ListN.{length}
-use Rattle.arithmetic.specs.Loop.{range, loop-start, loop-turn, loop-end}
+use Rattle.arithmetic.specs.Loop.{range}
+use Rattle.arithmetic.proofs.LoopLaws.{loop-start, loop-turn, loop-end}
 use Rattle.matrix.specs.Matrix.{zeros}
 use Rattle.matrix.specs.Plain.{putOne, index-to-permutation-mat}
 use Rattle.matrix.proofs.utils.index_to_permutation_mat.Statement.{statement}
@@ -16,35 +18,17 @@ Inv-loop idxs mat₀ n i₀ mat i = (i ≤ n) × (length mat ≡ length mat₀) 
 abbrev μ-loop : tie.MeasureT-loop
 μ-loop idxs mat₀ n i₀ mat i = n - i
 
-clear-requires : tie.Need-clear-requires Inv-loop μ-loop
-clear-requires c κs = search needs
-
 loop-holds : tie.Need-loop-holds Inv-loop μ-loop
 loop-holds c = (search needs, refl, loop-start _ _ _)
-
-mul-put : tie.Need-mul-put Inv-loop μ-loop
-mul-put c = search needs
-
-shared-slice-read-put : tie.Need-shared-slice-read-put Inv-loop μ-loop
-shared-slice-read-put c = search needs
 
 put-requires : tie.Need-put-requires Inv-loop μ-loop
 put-requires c κs =
     let s = c .before .before .before .before .before .before .before .before .before .before in
     (search needs, (c .before .before .loop-test .taken, s .pre .1 _ (c .before .before .loop-test .taken)))
 
-add-i : tie.Need-add-i Inv-loop μ-loop
-add-i c = search needs
-
-loop-less : tie.Need-loop-less Inv-loop μ-loop
-loop-less c = search needs
-
 loop-again : tie.Need-loop-again Inv-loop μ-loop
 unfolding putOne
 loop-again c = (search needs, search needs, loop-turn 0 _ _ _ _ _ zero-le (c .before .before .before .before .before .before .loop .inv .2) (c .before .before .put .ensures))
-
-same-length : tie.Need-same-length Inv-loop μ-loop
-same-length c = search needs
 
 from-zeros : (idxs : List ℕ) (cleared mat : List Float) (k : ℕ) → k ≡ length idxs * length idxs → cleared ≡ zeros k → mat ≡ range 0 (length idxs) (putOne idxs) cleared → mat ≡ index-to-permutation-mat idxs
 unfolding index-to-permutation-mat
@@ -57,18 +41,4 @@ returns c =
     (loop-end 0 _ _ _ _ _ (c .before .loop .inv .0) (search needs) (c .before .loop .inv .2))
 
 pub index-to-permutation-mat-spec : {M : Type 1} → statement M
-index-to-permutation-mat-spec =
-    tie.close
-    (tie.spec
-    Inv-loop
-    μ-loop
-    clear-requires
-    loop-holds
-    mul-put
-    shared-slice-read-put
-    put-requires
-    add-i
-    loop-less
-    loop-again
-    same-length
-    returns)
+index-to-permutation-mat-spec = tie.close (tie.spec Inv-loop μ-loop (λ c κs. search needs) loop-holds (λ c. search needs) (λ c. search needs) put-requires (λ c. search needs) (λ c. search needs) loop-again (λ c. search needs) returns)

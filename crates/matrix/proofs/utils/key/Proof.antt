@@ -1,10 +1,8 @@
+-- `utils::key` meets its contract.
 use borrow.Author.Needs.{needs}
 use Rattle.matrix.specs.Search.{key}
 use Rattle.matrix.proofs.utils.key.Statement.{statement}
 use Rattle.matrix.proofs.utils.key.Tie as tie
-
-abs-requires : tie.Need-abs-requires
-abs-requires c κs = search needs
 
 returns : tie.Need-returns
 unfolding key
@@ -15,4 +13,4 @@ unfolding key
 returns-2 c = rw (c .if1 .left)
 
 pub key-spec : {M : Type 1} → statement M
-key-spec = tie.close (tie.spec abs-requires returns returns-2)
+key-spec = tie.close (tie.spec (λ c κs. search needs) returns returns-2)

@@ -1,3 +1,4 @@
+-- `utils::ordered` meets its contract.
 use Rattle.matrix.proofs.utils.ordered.Statement.{statement}
 use Rattle.matrix.proofs.utils.ordered.Tie as tie
 

@@ -1,56 +1,34 @@
-use Rattle.matrix.specs.Checks.{check-finite}
-use Rattle.matrix.proofs.CheckLaws.{Accepted, accepted, refused, goes-on, entries-accepted}
-use Rattle.methods.specs.Calls.{length-checks, factor-checks}
-use Rattle.methods.proofs.CallLaws.{Lengths, lengths-accepted}
+-- `factor_checks` meets its contract: check 8 is made where the others passed.
 use borrow.Author.Needs.{needs}
+use lib.ListN.{length}
+use Rattle.arithmetic.specs.Outcome.{_then_}
+use Rattle.matrix.specs.Checks.{check-finite}
+use Rattle.matrix.proofs.CheckLaws.{Accepted, accepted, refused, goes-on, links, both-accepted, entries-accepted}
+use Rattle.methods.specs.Calls.{operand-checks, factor-checks}
+use Rattle.methods.proofs.CallLaws.{square-operand}
 use Rattle.modcholesky.proofs.calls.factor_checks.Statement.{statement}
 use Rattle.modcholesky.proofs.calls.factor_checks.Tie as tie
 
-length-checks-requires : tie.Need-length-checks-requires
-length-checks-requires c κs = search needs
-
-complete-requires : tie.Need-complete-requires
-complete-requires c κs = search needs
-
 returns : tie.Need-returns
 unfolding factor-checks
-returns c = refused (c .before .before .length-checks .ensures) (c .before .complete .ensures) _ (c .if1 .taken)
+returns c =
+    let b = c .before .before in
+    refused (links (b .then .ensures) (b .before .before .operand-checks .ensures) (b .before .check-finite .ensures)) (c .before .complete .ensures) _ (c .if1 .taken)
 
-lengths : (c : tie.Else1) → let a = c .before .before .before .before .args in Accepted (length-checks (a .n) (a .a .now) (a .l) (a .work) (a .e) (a .p))
-lengths c = accepted (c .before .before .length-checks .ensures) (c .before .complete .ensures) (c .if1 .left)
+entries : (c : tie.Else1) → let a = c .before .before .before .before .before .before .args in Accepted (operand-checks (a .method) (a .n) (length (a .a .now)) (a .l) (a .work) (a .e) (a .p) then check-finite (a .n) (a .a .now))
+entries c =
+    let b = c .before .before in
+    accepted (links (b .then .ensures) (b .before .before .operand-checks .ensures) (b .before .check-finite .ensures)) (c .before .complete .ensures) (c .if1 .left)
 
-sizes : (c : tie.Else1) → let a = c .before .before .before .before .args in Lengths (a .n) (a .a .now) (a .l) (a .work) (a .e) (a .p)
-sizes c = lengths-accepted _ _ _ _ _ _ (lengths c)
-
-check-finite-requires : tie.Need-check-finite-requires
-check-finite-requires c κs = sizes c .some
-
-complete-requires-2 : tie.Need-complete-requires-2
-complete-requires-2 c κs = search needs
+check-symmetric-requires : tie.Need-check-symmetric-requires
+check-symmetric-requires c κs =
+    let both = both-accepted _ _ (entries c) in
+    let s = square-operand _ _ _ _ _ _ _ (both .0) in
+    (s, entries-accepted _ _ s (both .1))
 
 returns-2 : tie.Need-returns-2
 unfolding factor-checks
-returns-2 c = goes-on (lengths (c .before .before .before)) (refused (c .before .before .check-finite .ensures) (c .before .complete2 .ensures) _ (c .if2 .taken))
-
-entries : (c : tie.Else2) → let a = c .before .before .before .before .before .before .before .args in Accepted (check-finite (a .n) (a .a .now))
-entries c = accepted (c .before .before .check-finite .ensures) (c .before .complete2 .ensures) (c .if2 .left)
-
-check-symmetric-requires : tie.Need-check-symmetric-requires
-check-symmetric-requires c κs = let s = sizes (c .before .before .before) .square in (s, entries-accepted _ _ s (entries c))
-
-returns-3 : tie.Need-returns-3
-unfolding factor-checks
-returns-3 c = goes-on (lengths (c .before .before .before .before)) (goes-on (entries (c .before)) (c .check-symmetric .ensures))
+returns-2 c = goes-on (entries (c .before)) (c .check-symmetric .ensures)
 
 pub factor-checks-spec : {M : Type 1} → statement M
-factor-checks-spec =
-    tie.close
-    (tie.spec
-    length-checks-requires
-    complete-requires
-    returns
-    check-finite-requires
-    complete-requires-2
-    returns-2
-    check-symmetric-requires
-    returns-3)
+factor-checks-spec = tie.close (tie.spec (λ c κs. search needs) (λ c κs. search needs) (λ c κs. search needs) (λ c κs. search needs) returns check-symmetric-requires returns-2)

@@ -1,15 +1,12 @@
+-- `check_record` meets its contract: each check's, in turn.
 use borrow.Author.Needs.{needs}
+use Rattle.record.specs.MatrixRecord.{check-record}
 use Rattle.record.proofs.read.check_record.Statement.{statement}
 use Rattle.record.proofs.read.check_record.Tie as tie
 
-well-formed-requires : tie.Need-well-formed-requires
-well-formed-requires c κs = search needs
-
 returns : tie.Need-returns
-returns c = rw (← c .before .well-formed .ensures, c .if1 .taken)
-
-returns-2 : tie.Need-returns-2
-returns-2 c = rw (← c .before .well-formed .ensures, c .if1 .left)
+unfolding check-record
+returns c = cc
 
 pub check-record-spec : {M : Type 1} → statement M
-check-record-spec = tie.close (tie.spec well-formed-requires returns returns-2)
+check-record-spec = tie.close (tie.spec (search needs) (search needs) (search needs) (search needs) (search needs) returns)

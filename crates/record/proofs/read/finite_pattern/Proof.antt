@@ -1,3 +1,4 @@
+-- `finite_pattern` meets its contract: the exponent's field.
 use mathlib.Core.Path.{sym}
 use Rattle.record.proofs.Numbers.{bits-finite}
 use Rattle.record.proofs.read.finite_pattern.Statement.{statement}

@@ -1,3 +1,4 @@
+-- `first_not_finite` meets its contract: the loop has still to find the first double that isn't finite.
 use mathlib.Core.Path.{_≡_, sym, ap, _∙_}
 use mathlib.Core.Bool.{not}
 use Prim.Native.Nat.{_-_, _≤_}
@@ -19,15 +20,6 @@ abbrev μ-loop : tie.MeasureT-loop
 loop-holds : tie.Need-loop-holds Inv-loop μ-loop
 loop-holds c = (search needs, ap (firstFrom _ 0) (doubles-length _) ∙ search-start _ _)
 
-mul-read-number : tie.Need-mul-read-number Inv-loop μ-loop
-mul-read-number c = search needs
-
-read-number-requires : tie.Need-read-number-requires Inv-loop μ-loop
-read-number-requires c κs = search needs
-
-finite-pattern-requires : tie.Need-finite-pattern-requires Inv-loop μ-loop
-finite-pattern-requires c κs = search needs
-
 tests : (c : tie.After-finite-pattern Inv-loop μ-loop)
     → notFinite (doubles (c .before .before .before .before .before .args .b .now)) (c .before .before .before .loop .k) ≡ not (c .finite-pattern .result)
 tests c = pattern-test _ _ _ (c .before .before .loop-test .taken) (c .before .read-number .ensures) _ (c .finite-pattern .ensures)
@@ -36,12 +28,6 @@ returns : tie.Need-returns Inv-loop μ-loop
 returns c =
     let t = c .before .before .before in
     sym (t .before .loop .inv .1 ∙ search-found _ _ _ (t .loop-test .taken) (tests (c .before) ∙ c .if1 .taken))
-
-add-k : tie.Need-add-k Inv-loop μ-loop
-add-k c = search needs
-
-loop-less : tie.Need-loop-less Inv-loop μ-loop
-loop-less c = search needs
 
 loop-again : tie.Need-loop-again Inv-loop μ-loop
 loop-again c =
@@ -52,17 +38,4 @@ returns-2 : tie.Need-returns-2 Inv-loop μ-loop
 returns-2 c = let l = c .before .loop in sym (l .inv .1 ∙ search-end _ _ _ (l .inv .0) (c .loop-test .left))
 
 pub first-not-finite-spec : {M : Type 1} → statement M
-first-not-finite-spec =
-    tie.close
-    (tie.spec
-    Inv-loop
-    μ-loop
-    loop-holds
-    mul-read-number
-    read-number-requires
-    finite-pattern-requires
-    returns
-    add-k
-    loop-less
-    loop-again
-    returns-2)
+first-not-finite-spec = tie.close (tie.spec Inv-loop μ-loop loop-holds (search needs) (search needs) (search needs) returns (search needs) (search needs) loop-again returns-2)

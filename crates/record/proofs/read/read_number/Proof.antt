@@ -1,37 +1,26 @@
+-- `read_number` meets its contract: the bytes from the highest down, so far.
 use mathlib.Core.Path.{_≡_, refl}
 use Prim.Native.Nat.{_+_, _-_, _≤_, _<_}
 use native.Mathlib.Omega.{arith}
 use lib.ListN.{take, drop}
-use Rattle.record.specs.Bytes.{number}
+use Rattle.record.specs.Bytes.{lowFirst}
 use Rattle.record.proofs.Numbers.{number-small, number-turn, number-end}
 use borrow.Author.Needs.{needs}
 use Rattle.record.proofs.read.read_number.Statement.{statement}
 use Rattle.record.proofs.read.read_number.Tie as tie
 
 abbrev Inv-loop : tie.InvT-loop
-Inv-loop b at v₀ k₀ v k = (k ≤ 8) × (v ≡ number (take k (drop (at + (8 - k)) b)))
+Inv-loop b at v₀ k₀ v k = (k ≤ 8) × (v ≡ lowFirst (take k (drop (at + (8 - k)) b)))
 
 abbrev μ-loop : tie.MeasureT-loop
 μ-loop b at v₀ k₀ v k = 8 - k
 
 loop-holds : tie.Need-loop-holds Inv-loop μ-loop
-unfolding number
+unfolding lowFirst
 loop-holds c = (search needs, refl)
 
-sub-i : tie.Need-sub-i Inv-loop μ-loop
-sub-i c = search needs
-
-add-i : tie.Need-add-i Inv-loop μ-loop
-add-i c = search needs
-
-shared-slice-read-wide : tie.Need-shared-slice-read-wide Inv-loop μ-loop
-shared-slice-read-wide c = search needs
-
-wide-requires : tie.Need-wide-requires Inv-loop μ-loop
-wide-requires c κs = search needs
-
 small : (c : tie.After-shared-slice-known2 Inv-loop μ-loop) → let a = c .before .before .before .before .args in let k = c .before .before .loop .k in
-    number (take k (drop (a .at + (8 - k)) (a .b .now))) < 0x100_0000_0000_0000
+    lowFirst (take k (drop (a .at + (8 - k)) (a .b .now))) < 0x100_0000_0000_0000
 small c =
     let a = c .before .before .before .before .args in
     number-small (a .b .now) (a .at) (c .before .before .loop .k) (λ i. c .shared-slice-known2 .given i .fits) (omega arith)
@@ -44,12 +33,6 @@ add-v c =
     let a = c .before .before .before .before .before .args in
     omega (arith, small (c .before), c .before .shared-slice-known2 .given (a .at + (7 - c .before .before .before .loop .k)))
 
-add-k : tie.Need-add-k Inv-loop μ-loop
-add-k c = search needs
-
-loop-less : tie.Need-loop-less Inv-loop μ-loop
-loop-less c = search needs
-
 loop-again : tie.Need-loop-again Inv-loop μ-loop
 loop-again c =
     let a = c .before .before .before .before .before .args in
@@ -60,19 +43,4 @@ returns : tie.Need-returns Inv-loop μ-loop
 returns c = number-end _ _ _ _ (c .before .loop .inv .0) (search needs) (c .before .loop .inv .1)
 
 pub read-number-spec : {M : Type 1} → statement M
-read-number-spec =
-    tie.close
-    (tie.spec
-    Inv-loop
-    μ-loop
-    loop-holds
-    sub-i
-    add-i
-    shared-slice-read-wide
-    wide-requires
-    mul-v
-    add-v
-    add-k
-    loop-less
-    loop-again
-    returns)
+read-number-spec = tie.close (tie.spec Inv-loop μ-loop loop-holds (search needs) (search needs) (search needs) (search needs) mul-v add-v (search needs) (search needs) loop-again returns)

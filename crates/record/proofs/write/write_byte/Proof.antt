@@ -1,20 +1,12 @@
+-- `write_byte` meets its contract.
 use borrow.Author.Needs.{needs}
 use mathlib.Core.Path.{refl}
 use Rattle.record.proofs.Over.{over-byte}
 use Rattle.record.proofs.write.write_byte.Statement.{statement}
 use Rattle.record.proofs.write.write_byte.Tie as tie
 
-slice-write-out : tie.Need-slice-write-out
-slice-write-out c = search needs
-
-add-result : tie.Need-add-result
-add-result c = search needs
-
-same-length : tie.Need-same-length
-same-length c = search needs
-
 returns : tie.Need-returns
 returns c = (over-byte _ _ _ (c .pre), refl)
 
 pub write-byte-spec : {M : Type 1} → statement M
-write-byte-spec = tie.close (tie.spec slice-write-out add-result same-length returns)
+write-byte-spec = tie.close (tie.spec (search needs) (search needs) (search needs) returns)

@@ -1,3 +1,4 @@
+-- `write_complete` meets its contract: the marks, then p, e and L.
 use mathlib.Core.Path.{_∙_}
 use native.Mathlib.Omega.{arith}
 use Rattle.record.specs.Writing.{result}
@@ -22,8 +23,7 @@ returns c =
     let s = c .before .before .before .before .before .before .before .before .before .before .before .before in
     let a = s .args in
     let r = result (a .d) (a .l .now) (a .e .now) (a .p .now) in
-    complete-written _ _ _ _ _ r (c .before .before .before .before .before .before .write-marks .ensures) (c .before .before .write-factor .ensures (a .d)) (s .pre .0 .1) (omega (arith, length-factor r))
+    complete-written _ _ _ _ _ r (c .before .before .before .before .before .before .write-marks .ensures) (c .before .before .write-factor .ensures) (s .pre .0 .1) (omega (arith, length-factor (a .p .now) (a .e .now) (a .l .now)))
 
 pub write-complete-spec : {M : Type 1} → statement M
-write-complete-spec =
-    tie.close (tie.spec write-marks-requires write-factor-requires same-length returns)
+write-complete-spec = tie.close (tie.spec write-marks-requires write-factor-requires same-length returns)

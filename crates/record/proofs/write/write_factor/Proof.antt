@@ -1,7 +1,7 @@
+-- `write_factor` meets its contract: three fields in turn.
 use mathlib.Core.Path.{_∙_}
 use native.Mathlib.Omega.{arith}
 use Rattle.record.proofs.WriteFields.{length-factor, factor-written}
-use Rattle.record.specs.Writing.{result}
 use Rattle.record.proofs.write.write_factor.Statement.{statement}
 use Rattle.record.proofs.write.write_factor.Tie as tie
 
@@ -24,16 +24,9 @@ same-length : tie.Need-same-length
 same-length c = c .before .out3 .given ∙ c .before .before .before .before .before .out2 .given ∙ c .before .before .before .before .before .before .before .before .before .out .given
 
 returns : tie.Need-returns
-returns c d =
+returns c =
     let a = c .before .before .before .before .before .before .before .before .before .before .before .before .before .before .before .before .args in
-    factor-written _ _ _ _ _ _ _ _ (result d (a .l .now) (a .e .now) (a .p .now)) (c .before .before .before .before .before .before .before .before .before .before .write-order-field .ensures) (c .before .before .before .before .before .before .write-doubles-field .ensures) (c .before .before .write-doubles-field2 .ensures) (omega (arith, length-factor (result d (a .l .now) (a .e .now) (a .p .now))))
+    factor-written _ _ _ _ _ _ _ _ (a .p .now) (a .e .now) (a .l .now) (c .before .before .before .before .before .before .before .before .before .before .write-order-field .ensures) (c .before .before .before .before .before .before .write-doubles-field .ensures) (c .before .before .write-doubles-field2 .ensures) (omega (arith, length-factor (a .p .now) (a .e .now) (a .l .now)))
 
 pub write-factor-spec : {M : Type 1} → statement M
-write-factor-spec =
-    tie.close
-    (tie.spec
-    write-order-field-requires
-    write-doubles-field-requires
-    write-doubles-field-requires-2
-    same-length
-    returns)
+write-factor-spec = tie.close (tie.spec write-order-field-requires write-doubles-field-requires write-doubles-field-requires-2 same-length returns)

@@ -1,3 +1,4 @@
+-- `write_order_field` meets its contract: a header and rows.
 use borrow.Author.Needs.{needs}
 use mathlib.Core.Path.{refl}
 use Rattle.record.proofs.WriteFields.{field-written}
@@ -5,18 +6,8 @@ use native.Mathlib.Omega.{arith}
 use Rattle.record.proofs.write.write_order_field.Statement.{statement}
 use Rattle.record.proofs.write.write_order_field.Tie as tie
 
-write-head-requires : tie.Need-write-head-requires
-write-head-requires c κs = search needs
-
-write-order-requires : tie.Need-write-order-requires
-write-order-requires c κs = search needs
-
-same-length : tie.Need-same-length
-same-length c = search needs
-
 returns : tie.Need-returns
 returns c = field-written _ _ _ _ _ _ _ _ _ (c .before .before .before .before .before .before .write-head .ensures) (c .before .before .write-order .ensures) refl (omega arith)
 
 pub write-order-field-spec : {M : Type 1} → statement M
-write-order-field-spec =
-    tie.close (tie.spec write-head-requires write-order-requires same-length returns)
+write-order-field-spec = tie.close (tie.spec (search needs) (λ c κs. search needs) (search needs) returns)

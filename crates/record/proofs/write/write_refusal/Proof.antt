@@ -1,3 +1,4 @@
+-- `write_refusal` meets its contract: the marks, then the place.
 use borrow.Author.Needs.{needs}
 use mathlib.Core.List.{[]}
 use native.Mathlib.Omega.{arith}
@@ -6,17 +7,8 @@ use Rattle.record.proofs.WriteFields.{refused-written}
 use Rattle.record.proofs.write.write_refusal.Statement.{statement}
 use Rattle.record.proofs.write.write_refusal.Tie as tie
 
-write-marks-requires : tie.Need-write-marks-requires
-write-marks-requires c κs = search needs
-
-place-requires : tie.Need-place-requires
-place-requires c κs = search needs
-
 write-place-requires : tie.Need-write-place-requires
 write-place-requires c κs = (search needs, rw (c .place .ensures) (c .before .before .before .before .before .before .before .pre .1 .1))
-
-same-length : tie.Need-same-length
-same-length c = search needs
 
 returns : tie.Need-returns
 returns c =
@@ -24,6 +16,4 @@ returns c =
     refused-written _ _ _ _ _ (result (s .args .d) [] [] []) (c .before .before .before .before .before .before .before .write-marks .ensures) _ (c .before .before .before .place .ensures) (c .before .before .write-place .ensures) (s .pre .0 .1) (omega arith)
 
 pub write-refusal-spec : {M : Type 1} → statement M
-write-refusal-spec =
-    tie.close
-    (tie.spec write-marks-requires place-requires write-place-requires same-length returns)
+write-refusal-spec = tie.close (tie.spec (λ c κs. search needs) (λ c κs. search needs) write-place-requires (search needs) returns)

@@ -1,3 +1,4 @@
+-- `outcome::Outcome::place` meets its contract.
 use borrow.Author.Needs.{needs}
 use Rattle.arithmetic.proofs.outcome.Outcome.place.Statement.{statement}
 use Rattle.arithmetic.proofs.outcome.Outcome.place.Tie as tie
@@ -5,45 +6,15 @@ use Rattle.arithmetic.proofs.outcome.Outcome.place.Reads as reads
 use Rattle.arithmetic.proofs.outcome.Outcome.place.Lts as lts
 
 -- src/outcome.rt:53:40
-enum-known-self : tie.Need-enum-known-self
-enum-known-self c = search needs
-
 -- src/outcome.rt:57:34
-enum-known-self-2 : tie.Need-enum-known-self-2
-enum-known-self-2 c = search needs
-
 -- src/outcome.rt:58:36
-enum-known-self-3 : tie.Need-enum-known-self-3
-enum-known-self-3 c = search needs
-
 -- src/outcome.rt:59:40
-enum-known-self-4 : tie.Need-enum-known-self-4
-enum-known-self-4 c = search needs
-
 -- src/outcome.rt:63:34
-enum-told : tie.Need-enum-told
-enum-told c = search needs
-
 -- src/outcome.rt:64:41
-enum-told-2 : tie.Need-enum-told-2
-enum-told-2 c = search needs
-
 -- src/outcome.rt:65:39
-enum-told-3 : tie.Need-enum-told-3
-enum-told-3 c = search needs
-
 -- src/outcome.rt:66:40
-enum-told-4 : tie.Need-enum-told-4
-enum-told-4 c = search needs
-
 -- src/outcome.rt:67:38
-enum-told-5 : tie.Need-enum-told-5
-enum-told-5 c = search needs
-
 -- src/outcome.rt:68:38
-enum-told-6 : tie.Need-enum-told-6
-enum-told-6 c = search needs
-
 -- src/outcome.rt:49:5
 returns : tie.Need-returns
 returns c = rw (c .before .self .given .1)
@@ -85,26 +56,4 @@ returns-10 : tie.Need-returns-10
 returns-10 c = rw (c .enum-told6 .given .1)
 
 pub place-spec : {M : Type 1} → statement M
-place-spec =
-    tie.close
-    (tie.spec
-    enum-known-self
-    enum-known-self-2
-    enum-known-self-3
-    enum-known-self-4
-    enum-told
-    enum-told-2
-    enum-told-3
-    enum-told-4
-    enum-told-5
-    enum-told-6
-    returns
-    returns-2
-    returns-3
-    returns-4
-    returns-5
-    returns-6
-    returns-7
-    returns-8
-    returns-9
-    returns-10)
+place-spec = tie.close (tie.spec (search needs) (search needs) (search needs) (search needs) (search needs) (search needs) (search needs) (search needs) (search needs) (search needs) returns returns-2 returns-3 returns-4 returns-5 returns-6 returns-7 returns-8 returns-9 returns-10)

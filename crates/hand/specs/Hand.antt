@@ -1,0 +1,106 @@
+-- Document 01's section 'Hand calculations': the fourteen as rows of one table. proofs/Rows.antt: `hand-calculations`, one fact over all rows.
+use mathlib.Core.Path.{_≡_}
+use mathlib.Core.Bool.{true, false}
+use mathlib.Core.List.{List, [], _∷_}
+use Prim.Native.Nat.{ℕ}
+use lib.IntN.{pos, negsuc}
+use lib.Ieee.{Float, fin, neg, binary64, ofBits}
+use Rattle.arithmetic.specs.Double.{plus-zero}
+use Rattle.arithmetic.specs.Sqrt.{checked-sqrt}
+use Rattle.arithmetic.specs.declared.outcome.Outcome.{Outcome}
+use Rattle.arithmetic.specs.declared.outcome.Outcome.the-variants.{Complete, StoredNotFinite}
+use Rattle.matrix.specs.Matrix.{zeros}
+use Rattle.matrix.specs.Calls.{checked-eigenvalues-2x2, checked-search}
+use Rattle.circles.specs.Circles.{checked-gershgorin-circles, circlesCall}
+use Rattle.methods.specs.Factor.{factor, tolerances}
+use Rattle.methods.specs.declared.method.Method.{Method}
+use Rattle.methods.specs.declared.method.Method.the-variants.{Gmw81, Se}
+use Rattle.methods.specs.declared.decomposition.Mark.{Mark}
+use Rattle.methods.specs.declared.decomposition.Mark.the-variants.{Never, Step}
+use Rattle.methods.specs.declared.schnabel_eskow.Variant.the-variants.{Se90}
+
+-- ---- numbers of the table
+abbrev 1· : Float
+1· = fin false 1 (pos 0)
+
+abbrev 2· : Float
+2· = fin false 1 (pos 1)
+
+abbrev 3· : Float
+3· = fin false 3 (pos 0)
+
+abbrev pub 4· : Float
+4· = fin false 1 (pos 2)
+
+abbrev 5· : Float
+5· = fin false 5 (pos 0)
+
+abbrev 8· : Float
+8· = fin false 1 (pos 3)
+
+abbrev 0· : Float
+0· = plus-zero
+
+abbrev pub minus : Float → Float
+minus x = neg x
+
+-- 2^-26, 2^-52, 2^-537 and 2^-1074
+abbrev 2^-26 : Float
+2^-26 = fin false 1 (negsuc 25)
+
+abbrev 2^-52 : Float
+2^-52 = fin false 1 (negsuc 51)
+
+abbrev 2^-537 : Float
+2^-537 = fin false 1 (negsuc 536)
+
+abbrev 2^-1074 : Float
+2^-1074 = fin false 1 (negsuc 1073)
+
+abbrev largest-double : Float
+largest-double = ofBits binary64 0x7fef_ffff_ffff_ffff
+
+-- ---- a row: which calculation it is, and what comes out
+pub data Row : Type 0 where
+  -- method, n, matrix; outcome (refusal and place), tied step, phase-two step, L, e, p
+  factorization : Method → ℕ → List Float → Outcome → Mark → Mark → List Float → List Float → List ℕ → Row
+  -- a block of two rows of two; the larger and the smaller eigenvalue
+  eigenvalues : List (List Float) → Float → Float → Row
+  -- n, matrix; centres, radii
+  circles : ℕ → List Float → List Float → List Float → Row
+  -- a list; the index of the largest, and of the largest magnitude
+  searches : List Float → ℕ → ℕ → Row
+  -- an operand; its root
+  root : Float → Float → Row
+
+-- what a row states, of the definitions themselves
+abbrev pub Holds : Row → Type 0
+Holds (factorization method n a outcome tied phase2 l e p) =
+    factor method tolerances n a ≡ record { decomposition = record { outcome = outcome; tied = tied; phase2 = phase2 }; l = l; e = e; p = p }
+Holds (eigenvalues mat hi lo) = checked-eigenvalues-2x2 mat ≡ record { outcome = Complete; eigen = record { hi = hi; lo = lo } }
+Holds (circles n mat centres radii) = checked-gershgorin-circles n mat (zeros n) (zeros n) ≡ circlesCall Complete centres radii
+Holds (searches c index by-magnitude) =
+    (checked-search false c ≡ record { outcome = Complete; index = index }) × (checked-search true c ≡ record { outcome = Complete; index = by-magnitude })
+Holds (root x r) = checked-sqrt x ≡ record { outcome = Complete; value = r }
+
+abbrev pub All : List Row → Type 0
+All [] = Unit
+All (row ∷ rest) = Holds row × All rest
+
+abbrev pub rows : List Row
+rows =
+    factorization Gmw81 1 (4· ∷ []) Complete Never Never (2· ∷ []) (0· ∷ []) (0 ∷ [])
+    ∷ factorization Gmw81 1 (minus 4· ∷ []) Complete Never Never (2· ∷ []) (8· ∷ []) (0 ∷ [])
+    ∷ factorization Gmw81 1 (0· ∷ []) Complete Never Never (2^-26 ∷ []) (2^-52 ∷ []) (0 ∷ [])
+    ∷ factorization Gmw81 2 (4· ∷ 2· ∷ 2· ∷ 2· ∷ []) Complete Never Never (2· ∷ 0· ∷ 1· ∷ 1· ∷ []) (0· ∷ 0· ∷ []) (0 ∷ 1 ∷ [])
+    ∷ factorization Gmw81 2 (2· ∷ 2· ∷ 2· ∷ 4· ∷ []) Complete Never Never (2· ∷ 0· ∷ 1· ∷ 1· ∷ []) (0· ∷ 0· ∷ []) (1 ∷ 0 ∷ [])
+    ∷ factorization Gmw81 2 (1· ∷ 0· ∷ 0· ∷ 1· ∷ []) Complete (Step 0) Never (1· ∷ 0· ∷ 0· ∷ 1· ∷ []) (0· ∷ 0· ∷ []) (0 ∷ 1 ∷ [])
+    ∷ factorization Gmw81 2 (largest-double ∷ largest-double ∷ largest-double ∷ largest-double ∷ []) (StoredNotFinite 0) (Step 0) Never (zeros 4) (zeros 2) (0 ∷ 1 ∷ [])
+    ∷ factorization (Se Se90) 1 (minus 4· ∷ []) (StoredNotFinite 0) Never Never (zeros 1) (zeros 1) (0 ∷ [])
+    ∷ factorization (Se Se90) 2 (4· ∷ 2· ∷ 2· ∷ 2· ∷ []) Complete Never Never (2· ∷ 0· ∷ 1· ∷ 1· ∷ []) (0· ∷ 0· ∷ []) (0 ∷ 1 ∷ [])
+    ∷ factorization (Se Se90) 2 (0· ∷ 0· ∷ 0· ∷ 0· ∷ []) (StoredNotFinite 0) (Step 0) Never (zeros 4) (zeros 2) (0 ∷ 1 ∷ [])
+    ∷ eigenvalues ((2· ∷ 1· ∷ []) ∷ (1· ∷ 2· ∷ []) ∷ []) 3· 1·
+    ∷ circles 2 (1· ∷ minus 2· ∷ 3· ∷ 4· ∷ []) (1· ∷ 4· ∷ []) (2· ∷ 2· ∷ [])
+    ∷ searches (3· ∷ minus 5· ∷ 3· ∷ []) 0 1
+    ∷ root 2^-1074 2^-537
+    ∷ []

@@ -1,0 +1,215 @@
+// A walk over a record's fields. A field has a one-byte tag, a two-byte length, low byte first, and its content.
+ghost use mathlib.Core.Path.{_≡_};
+ghost use Prim.Native.Nat.{_-_, _≤_, _<_};
+ghost use lib.ListN.{length, getD};
+ghost use Rattle.record.specs.Cursor.{expect, after, nothingDue, noted, partAt, cut, contentAt, passField, walk};
+
+// Which field is due, or how the walk ended: a field's index counts those that stand in the record.
+pub enum Stage {
+    SizeDue,
+    MethodDue,
+    EntriesDue,
+    Done,
+    // The header or content of a field runs past the end.
+    PastEnd { field: usize },
+    WrongTag { field: usize },
+}
+
+// Where a field's content stands.
+pub struct Part {
+    pub start: usize,
+    pub len: usize,
+}
+
+// The contents found so far.
+pub struct Parts {
+    pub size: Part,
+    pub method: Part,
+    pub entries: Part,
+}
+
+// `at` is where the next field starts.
+pub struct Cursor {
+    pub at: usize,
+    pub stage: Stage,
+    pub parts: Parts,
+}
+
+// The most fields that a record has.
+const MOST_FIELDS: usize = 3;
+
+fn whole(x: u8) -> usize
+    ensures { λ r. ⌜ r ≡ x ⌝ }
+{
+    x as usize
+}
+
+// 0 past the end.
+pub fn byte_at(b: &[u8], at: usize) -> usize
+    ensures { λ r. ⌜ (r ≡ getD (now (b .entry)) at 0) × (r < 256) ⌝ }
+{
+    if at < b.len() {
+        return whole(b[at]);
+    }
+    0
+}
+
+// How many bytes there are from `at` on.
+fn bytes_left(b: &[u8], at: usize) -> usize
+    ensures { λ r. ⌜ r ≡ length (now (b .entry)) - at ⌝ }
+{
+    if b.len() < at {
+        return 0;
+    }
+    b.len() - at
+}
+
+// The content of the field whose header stands at `at`.
+fn part_at(b: &[u8], at: usize) -> Part
+    requires { ⌜ 3 ≤ length (now b) - at ⌝ }
+    ensures { λ r. ⌜ r ≡ partAt (now (b .entry)) at ⌝ }
+{
+    Part {
+        start: at + 3,
+        len: byte_at(b, at + 1) + 256 * byte_at(b, at + 2),
+    }
+}
+
+fn cut(b: &[u8], at: usize) -> bool
+    ensures { λ r. ⌜ r ≡ cut (now (b .entry)) at ⌝ }
+{
+    let room = bytes_left(b, at);
+    if room < 3 {
+        return true;
+    }
+    let part = part_at(b, at);
+    room - 3 < part.len
+}
+
+// The stage `next` where the tag is the one due, else WrongTag.
+fn expect(field: usize, tag: usize, due: usize, next: Stage) -> Stage
+    ensures { λ r. ⌜ r ≡ expect field tag due next ⌝ }
+{
+    if tag == due {
+        return next;
+    }
+    Stage::WrongTag { field }
+}
+
+// The stage after a field, by the tag that stands there.
+fn after(field: usize, stage: Stage, tag: usize) -> Stage
+    ensures { λ r. ⌜ r ≡ after field stage tag ⌝ }
+{
+    match stage {
+        Stage::SizeDue => expect(field, tag, 0x01, Stage::MethodDue),
+        Stage::MethodDue => expect(field, tag, 0x02, Stage::EntriesDue),
+        Stage::EntriesDue => expect(field, tag, 0x03, Stage::Done),
+        Stage::Done => stage,
+        Stage::PastEnd { field: _ } => stage,
+        Stage::WrongTag { field: _ } => stage,
+    }
+}
+
+fn nothing_due(stage: Stage) -> bool
+    ensures { λ r. ⌜ r ≡ nothingDue stage ⌝ }
+{
+    match stage {
+        Stage::SizeDue => false,
+        Stage::MethodDue => false,
+        Stage::EntriesDue => false,
+        Stage::Done => true,
+        Stage::PastEnd { field: _ } => true,
+        Stage::WrongTag { field: _ } => true,
+    }
+}
+
+fn noted(parts: Parts, tag: usize, part: Part) -> Parts
+    ensures { λ r. ⌜ r ≡ noted tag part parts ⌝ }
+{
+    let size = parts.size;
+    let method = parts.method;
+    let entries = parts.entries;
+    if tag == 0x01 {
+        return Parts {
+            size: part,
+            method,
+            entries,
+        };
+    }
+    if tag == 0x02 {
+        return Parts {
+            size,
+            method: part,
+            entries,
+        };
+    }
+    if tag == 0x03 {
+        return Parts {
+            size,
+            method,
+            entries: part,
+        };
+    }
+    parts
+}
+
+// Passes the field with this index.
+fn pass_field(b: &[u8], field: usize, c: Cursor) -> Cursor
+    ensures { λ r. ⌜ r ≡ passField (now (b .entry)) field c ⌝ }
+{
+    let at = c.at;
+    let stage = c.stage;
+    let parts = c.parts;
+    if nothing_due(stage) {
+        return c;
+    }
+    if cut(b, at) {
+        return Cursor {
+            at,
+            stage: Stage::PastEnd { field },
+            parts,
+        };
+    }
+    let tag = byte_at(b, at);
+    let part = part_at(b, at);
+    Cursor {
+        at: part.start + part.len,
+        stage: after(field, stage, tag),
+        parts: noted(parts, tag, part),
+    }
+}
+
+pub fn walk(b: &[u8]) -> Cursor
+    ensures { λ r. ⌜ r ≡ walk (now (b .entry)) ⌝ }
+{
+    let none = Part { start: 0, len: 0 };
+    let mut c = Cursor {
+        at: 0,
+        stage: Stage::SizeDue,
+        parts: Parts {
+            size: none,
+            method: none,
+            entries: none,
+        },
+    };
+    for field in 0..MOST_FIELDS {
+        c = pass_field(b, field, c);
+    }
+    c
+}
+
+// The bytes of a part, as far as there are any.
+pub fn content(b: &[u8], part: Part) -> &[u8]
+    ensures { λ r. ⌜ now r ≡ contentAt (now (b .entry)) part ⌝ }
+{
+    let start = part.start;
+    let len = b.len();
+    if len < start {
+        return &b[len..len];
+    }
+    if len - start < part.len {
+        return &b[start..len];
+    }
+    let end = start + part.len;
+    &b[start..end]
+}
