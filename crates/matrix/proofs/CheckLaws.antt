@@ -13,7 +13,7 @@ use lib.Dec.{T, eqb, leb, ltb}
 use lib.Ieee.{Float, nan, binary64, toBits, ofBits, fits}
 use lib.Ieee.Bits.{ofBits-toBits}
 use lib.Ieee.Scale.{finite}
-use borrow.Author.Tests.{not-true, not-false, eqb-true, eqb-false, eq-eqb, ne-eqb, ltb-false, lt-ltb, le-ltb, leb-true, leb-false, le-leb}
+use borrow.Author.Tests.{not-true, not-false, eqb-true, eqb-false, ltb-false, lt-ltb, leb-true, leb-false, le-leb}
 use Rattle.arithmetic.specs.All.{all}
 use Rattle.arithmetic.proofs.AllLaws.{all-each, all-true}
 use Rattle.arithmetic.specs.First.{first, firstFrom}
@@ -159,13 +159,3 @@ module _ (n : ℕ) (m : List Float) (doubles : (i j : ℕ) → i < n → j < n �
     | yes l ↦ above i j l q
     | no l ↦ elim (ℕ-discrete i j) [ yes e ↦ rw e | no d ↦ sym (above j i (omega arith) p) ]
   ]
-
--- ---- what is accepted
-pub size-passes : (n : ℕ) → 0 < n → n ≤ 48 → Accepted (check-size n)
-size-passes n some small = record { is = rw (ne-eqb n 0 (λ e. omega arith), le-ltb 48 n small) }
-
-pub matrix-passes : (n len : ℕ) → len ≡ n * n → Accepted (check-matrix n len)
-matrix-passes n len e = record { is = rw (eq-eqb len (n * n) e) }
-
-pub buffer-passes : (wanted len : ℕ) → len ≡ wanted → Accepted (check-buffer wanted len)
-buffer-passes wanted len e = record { is = rw (eq-eqb len wanted e) }
