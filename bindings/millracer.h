@@ -11,8 +11,13 @@
  * it while it runs and keeps no pointer. No pointer may be null, also where its length is 0, and what a call writes to
  * may not overlap anything else that the same call is given. A call keeps no state, so threads may call at once.
  *
- * No operand is forbidden otherwise: a call that can't accept one says so by a refusal. Its contract, an equation for
- * what it hands back and for every buffer it was lent, is proved (crates/exports). */
+ * A call whose name ends in _bytes takes doubles as bytes, eight each with the low byte first, and lists of indices as
+ * one byte each; its lengths are numbers of bytes. x86-64 keeps a double in that order, so the call of the same name
+ * without the ending, on double and size_t, is an inline function that passes the same memory on to the one on bytes,
+ * and a list of indices as a copy. Only millracer_factor passes on to millracer_factor_doubles instead.
+ *
+ * No operand is forbidden otherwise: a call that can't accept one says so by a refusal. The contract of each function
+ * in the archive, an equation for what it hands back and for every buffer it was lent, is proved (crates/exports). */
 #ifndef MILLRACER_H
 #define MILLRACER_H
 
@@ -25,13 +30,13 @@ extern "C" {
 
 enum { MILLRACER_MAX_N = 48, MILLRACER_NO_STEP = 255 };
 
-/* Refusals, in checking order. 2 to 8 leave every buffer untouched. */
+/* Refusals, in checking order. 1 to 8 leave every buffer untouched, save that an answer record tells of them. */
 enum {
   MILLRACER_COMPLETE = 0,
   MILLRACER_MALFORMED_RECORD = 1,
   MILLRACER_UNKNOWN_METHOD = 2,
   MILLRACER_SIZE_OUT_OF_RANGE = 3,  /* n is 0 or above 48, or a search is over nothing */
-  MILLRACER_MATRIX_LENGTH = 4,      /* a matrix without n * n entries */
+  MILLRACER_MATRIX_LENGTH = 4,      /* a matrix without n * n entries; bytes that are no whole number of doubles */
   MILLRACER_BUFFER_LENGTH = 5,      /* a buffer of another length than its own */
   MILLRACER_INDEX_OUT_OF_RANGE = 6, /* row: position of the first such index among those given */
   MILLRACER_NOT_FINITE = 7,         /* row, column: the first entry that is infinite or NaN; in a list position and 0 */
@@ -54,21 +59,35 @@ typedef struct {
   size_t phase2; /* the step at which SE90 or SE99 left phase one, or MILLRACER_NO_STEP */
 } millracer_factorization;
 
+millracer_factorization millracer_factor_doubles(size_t method, const double *a, size_t a_len, size_t n, double *l,
+                                                 size_t l_len, double *work, size_t work_len, double *e, size_t e_len,
+                                                 size_t *p, size_t p_len);
+millracer_factorization millracer_factor_bytes(size_t method, const uint8_t *a, size_t a_len, size_t n, uint8_t *l,
+                                               size_t l_len, uint8_t *work, size_t work_len, uint8_t *e, size_t e_len,
+                                               uint8_t *p, size_t p_len);
+
 /* Factors the symmetric matrix a of n * n entries. Lengths: l and work n * n, e and p n.
  * l: the lower factor. e[r]: what was added for row r of a. p[t]: the row of a taken at step t. work: +0.0 afterwards.
  * Refusal 9 writes +0.0 over l and e, and 0 to n - 1 into p. */
-millracer_factorization millracer_factor(size_t method, const double *a, size_t a_len, size_t n, double *l, size_t l_len,
-                                         double *work, size_t work_len, double *e, size_t e_len, size_t *p,
-                                         size_t p_len);
+static inline millracer_factorization millracer_factor(size_t method, const double *a, size_t a_len, size_t n,
+                                                       double *l, size_t l_len, double *work, size_t work_len,
+                                                       double *e, size_t e_len, size_t *p, size_t p_len) {
+  return millracer_factor_doubles(method, a, a_len, n, l, l_len, work, work_len, e, e_len, p, p_len);
+}
 
 /* ---- records */
 
 /* The bytes of the longest matrix record and of the longest answer record. */
 enum { MILLRACER_LONGEST_RECORD = 18443, MILLRACER_LONGEST_ANSWER = 18885 };
 
-/* Writes the answer record to a matrix record, any bytes, and returns its length. answer must have
- * MILLRACER_LONGEST_ANSWER bytes: of any other length it stays as it is, and 0 is returned. */
-size_t millracer_record(const uint8_t *record, size_t record_len, uint8_t *answer, size_t answer_len);
+typedef struct {
+  millracer_refusal refusal; /* also in the answer record */
+  size_t length;             /* of the answer record */
+} millracer_written;
+
+/* Writes the answer record to a matrix record, any bytes, at the front of answer, which has MILLRACER_LONGEST_ANSWER
+ * bytes. A buffer of any other length is refused, 5 after 1 to 4: it stays as it is, and the length is 0. */
+millracer_written millracer_record(const uint8_t *record, size_t record_len, uint8_t *answer, size_t answer_len);
 
 /* ---- square root, correctly rounded */
 
@@ -77,11 +96,8 @@ typedef struct {
   double value;
 } millracer_root;
 
-/* Of -0.0 it is -0.0, of a negative number NaN. */
-double millracer_sqrt(double x);
-
-/* Refuses an operand that is not finite (7) or is negative (9); the value is then 0. */
-millracer_root millracer_checked_sqrt(double x);
+/* Of -0.0 it is -0.0. Refuses an operand that is not finite (7) or is negative (9); the value is then 0. */
+millracer_root millracer_sqrt(double x);
 
 /* ---- helpers */
 
@@ -98,24 +114,61 @@ typedef struct {
   size_t index;
 } millracer_found_index;
 
+millracer_found_index millracer_index_of_largest_bytes(const uint8_t *c, size_t c_len);
+millracer_found_index millracer_index_of_largest_abs_bytes(const uint8_t *c, size_t c_len);
+
 /* The first of equals, in a list of any length above 0; 0 beside a refusal. */
-millracer_found_index millracer_index_of_largest(const double *c, size_t c_len);
-millracer_found_index millracer_index_of_largest_abs(const double *c, size_t c_len);
+static inline millracer_found_index millracer_index_of_largest(const double *c, size_t c_len) {
+  return millracer_index_of_largest_bytes((const uint8_t *)c, 8 * c_len);
+}
+static inline millracer_found_index millracer_index_of_largest_abs(const double *c, size_t c_len) {
+  return millracer_index_of_largest_abs_bytes((const uint8_t *)c, 8 * c_len);
+}
+
+millracer_refusal millracer_swap_rows_bytes(uint8_t *mat, size_t mat_len, size_t n, size_t idx1, size_t idx2);
+millracer_refusal millracer_swap_columns_bytes(uint8_t *mat, size_t mat_len, size_t n, size_t idx1, size_t idx2);
 
 /* mat has n * n entries, of any bits. */
-millracer_refusal millracer_swap_rows(double *mat, size_t mat_len, size_t n, size_t idx1, size_t idx2);
-millracer_refusal millracer_swap_columns(double *mat, size_t mat_len, size_t n, size_t idx1, size_t idx2);
+static inline millracer_refusal millracer_swap_rows(double *mat, size_t mat_len, size_t n, size_t idx1, size_t idx2) {
+  return millracer_swap_rows_bytes((uint8_t *)mat, 8 * mat_len, n, idx1, idx2);
+}
+static inline millracer_refusal millracer_swap_columns(double *mat, size_t mat_len, size_t n, size_t idx1,
+                                                       size_t idx2) {
+  return millracer_swap_columns_bytes((uint8_t *)mat, 8 * mat_len, n, idx1, idx2);
+}
 
-/* mat has idxs_len * idxs_len entries: row i becomes 1 at column idxs[i], else 0. An index may be repeated. */
-millracer_refusal millracer_index_to_permutation_mat(const size_t *idxs, size_t idxs_len, double *mat, size_t mat_len);
+millracer_refusal millracer_index_to_permutation_mat_bytes(const uint8_t *idxs, size_t idxs_len, uint8_t *mat,
+                                                           size_t mat_len);
+millracer_refusal millracer_diag_mat_from_arr_bytes(const uint8_t *arr, size_t arr_len, uint8_t *mat, size_t mat_len);
+
+/* mat has idxs_len * idxs_len entries: row i becomes 1 at column idxs[i], else 0. An index may be repeated.
+ * Each index is copied into a byte, one above 255 as 255, which is refused as well. A list of more than 48 is refused
+ * by its length, so that 49 of it are enough. */
+static inline millracer_refusal millracer_index_to_permutation_mat(const size_t *idxs, size_t idxs_len, double *mat,
+                                                                   size_t mat_len) {
+  uint8_t bytes[MILLRACER_MAX_N + 1] = {0};
+  size_t count = idxs_len < sizeof bytes ? idxs_len : sizeof bytes;
+  for (size_t i = 0; i < count; i++) bytes[i] = (uint8_t)(idxs[i] < 255 ? idxs[i] : 255);
+  return millracer_index_to_permutation_mat_bytes(bytes, count, (uint8_t *)mat, 8 * mat_len);
+}
 
 /* mat has arr_len * arr_len entries: arr on the diagonal, else 0. */
-millracer_refusal millracer_diag_mat_from_arr(const double *arr, size_t arr_len, double *mat, size_t mat_len);
+static inline millracer_refusal millracer_diag_mat_from_arr(const double *arr, size_t arr_len, double *mat,
+                                                            size_t mat_len) {
+  return millracer_diag_mat_from_arr_bytes((const uint8_t *)arr, 8 * arr_len, (uint8_t *)mat, 8 * mat_len);
+}
+
+millracer_refusal millracer_gershgorin_circles_bytes(const uint8_t *mat, size_t mat_len, size_t n, uint8_t *centres,
+                                                     size_t centres_len, uint8_t *radii, size_t radii_len);
 
 /* The Gershgorin circles of the rows of mat, symmetric or not: centres and radii have n entries.
  * Refusal 9 at a row whose sum of magnitudes is infinite writes +0.0 over both. */
-millracer_refusal millracer_gershgorin_circles(const double *mat, size_t mat_len, size_t n, double *centres,
-                                               size_t centres_len, double *radii, size_t radii_len);
+static inline millracer_refusal millracer_gershgorin_circles(const double *mat, size_t mat_len, size_t n,
+                                                             double *centres, size_t centres_len, double *radii,
+                                                             size_t radii_len) {
+  return millracer_gershgorin_circles_bytes((const uint8_t *)mat, 8 * mat_len, n, (uint8_t *)centres, 8 * centres_len,
+                                            (uint8_t *)radii, 8 * radii_len);
+}
 
 #ifdef __cplusplus
 }

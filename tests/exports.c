@@ -1,4 +1,4 @@
-// Each call of bindings/millracer.h once, on operands that it accepts or refuses.
+// Each call of bindings/millracer.h, on operands that it accepts or refuses: those on doubles, then those on bytes.
 #include <math.h>
 #include <stdio.h>
 #include <string.h>
@@ -17,11 +17,12 @@ static int is(millracer_refusal r, size_t number, size_t row, size_t column) {
 static int same(const double *x, const double *y, size_t n) { return memcmp(x, y, n * sizeof *x) == 0; }
 
 static void values(void) {
-  EXPECT(millracer_sqrt(4) == 2);
-  millracer_root root = millracer_checked_sqrt(9);
+  millracer_root root = millracer_sqrt(9);
   EXPECT(is(root.refusal, 0, 0, 0) && root.value == 3);
-  root = millracer_checked_sqrt(INFINITY);
+  root = millracer_sqrt(INFINITY);
   EXPECT(is(root.refusal, MILLRACER_NOT_FINITE, 0, 0) && root.value == 0);
+  root = millracer_sqrt(-4);
+  EXPECT(is(root.refusal, MILLRACER_STORED_NOT_FINITE, 0, 0) && root.value == 0);
 
   millracer_eigenvalues eigen = millracer_eigenvalues_2x2(2, 1, 1, 2);
   EXPECT(is(eigen.refusal, 0, 0, 0) && eigen.hi == 3 && eigen.lo == 1);
@@ -47,6 +48,9 @@ static void matrices(void) {
   EXPECT(same(mat, (double[]){4, 3, 2, 1}, 4));
 
   EXPECT(is(millracer_index_to_permutation_mat((size_t[]){1, 0}, 2, mat, 4), 0, 0, 0));
+  EXPECT(same(mat, (double[]){0, 1, 1, 0}, 4));
+  EXPECT(is(millracer_index_to_permutation_mat((size_t[]){1, 256}, 2, mat, 4), MILLRACER_INDEX_OUT_OF_RANGE, 1, 0));
+  EXPECT(is(millracer_index_to_permutation_mat((size_t[300]){0}, 300, mat, 4), MILLRACER_SIZE_OUT_OF_RANGE, 0, 0));
   EXPECT(same(mat, (double[]){0, 1, 1, 0}, 4));
   EXPECT(is(millracer_diag_mat_from_arr((double[]){5, 6}, 2, mat, 4), 0, 0, 0));
   EXPECT(same(mat, (double[]){5, 0, 0, 6}, 4));
@@ -74,13 +78,74 @@ static void factorizations(void) {
   EXPECT(is(f.refusal, MILLRACER_UNKNOWN_METHOD, 0, 0));
 }
 
+// A length of one byte more or less is refused, and the buffers stay as they are.
+static void lengths_in_bytes(void) {
+  const uint8_t c[] = {0, 0, 0, 0, 0, 0, 0xf0, 0x3f, 0, 0, 0, 0, 0, 0, 0, 0xc0};
+  millracer_found_index found = millracer_index_of_largest_bytes(c, 16);
+  EXPECT(is(found.refusal, 0, 0, 0) && found.index == 0);
+  found = millracer_index_of_largest_abs_bytes(c, 16);
+  EXPECT(is(found.refusal, 0, 0, 0) && found.index == 1);
+  EXPECT(is(millracer_index_of_largest_bytes(c, 0).refusal, MILLRACER_SIZE_OUT_OF_RANGE, 0, 0));
+  EXPECT(is(millracer_index_of_largest_bytes(c, 7).refusal, MILLRACER_MATRIX_LENGTH, 0, 0));
+  found = millracer_index_of_largest_abs_bytes(c, 15);
+  EXPECT(is(found.refusal, MILLRACER_MATRIX_LENGTH, 0, 0) && found.index == 0);
+
+  uint8_t mat[33], before[33];
+  for (size_t i = 0; i < 33; i++) mat[i] = before[i] = (uint8_t)(i + 1);
+  EXPECT(is(millracer_swap_rows_bytes(mat, 31, 2, 0, 1), MILLRACER_MATRIX_LENGTH, 0, 0));
+  EXPECT(is(millracer_swap_columns_bytes(mat, 33, 2, 0, 1), MILLRACER_MATRIX_LENGTH, 0, 0));
+  const uint8_t exchange[] = {1, 0}, above[] = {0, 2};
+  EXPECT(is(millracer_index_to_permutation_mat_bytes(exchange, 2, mat, 31), MILLRACER_BUFFER_LENGTH, 0, 0));
+  EXPECT(is(millracer_index_to_permutation_mat_bytes(above, 2, mat, 32), MILLRACER_INDEX_OUT_OF_RANGE, 1, 0));
+  EXPECT(is(millracer_diag_mat_from_arr_bytes(c, 7, mat, 32), MILLRACER_SIZE_OUT_OF_RANGE, 0, 0));
+  EXPECT(is(millracer_diag_mat_from_arr_bytes(c, 15, mat, 8), MILLRACER_MATRIX_LENGTH, 0, 0));
+  EXPECT(is(millracer_diag_mat_from_arr_bytes(c, 16, mat, 31), MILLRACER_BUFFER_LENGTH, 0, 0));
+  EXPECT(memcmp(mat, before, 33) == 0);
+  // bytes may stand at any address
+  EXPECT(is(millracer_swap_rows_bytes(mat + 1, 32, 2, 0, 1), 0, 0, 0));
+  EXPECT(mat[0] == 1 && memcmp(mat + 1, before + 17, 16) == 0 && memcmp(mat + 17, before + 1, 16) == 0);
+
+  uint8_t l[32], work[32], e[16], p[2];
+  memset(l, 7, 32), memset(work, 7, 32), memset(e, 7, 16), memset(p, 7, 2);
+  const uint8_t a[33] = {[6] = 0xf0, [7] = 0x3f, [30] = 0xf0, [31] = 0x3f};
+  EXPECT(is(millracer_gershgorin_circles_bytes(a, 31, 2, e, 16, l, 16), MILLRACER_MATRIX_LENGTH, 0, 0));
+  EXPECT(is(millracer_gershgorin_circles_bytes(a, 32, 2, e, 16, l, 15), MILLRACER_BUFFER_LENGTH, 0, 0));
+  const size_t a_lens[] = {31, 32, 32, 32, 32}, l_lens[] = {32, 31, 32, 32, 32}, work_lens[] = {32, 32, 31, 32, 32},
+               e_lens[] = {16, 16, 16, 15, 16}, p_lens[] = {2, 2, 2, 2, 1};
+  for (size_t i = 0; i < 5; i++) {
+    millracer_factorization f = millracer_factor_bytes(MILLRACER_SE90, a, a_lens[i], 2, l, l_lens[i], work,
+                                                       work_lens[i], e, e_lens[i], p, p_lens[i]);
+    EXPECT(is(f.refusal, i == 0 ? MILLRACER_MATRIX_LENGTH : MILLRACER_BUFFER_LENGTH, 0, 0));
+    EXPECT(f.tied == MILLRACER_NO_STEP && f.phase2 == MILLRACER_NO_STEP);
+  }
+  EXPECT(l[0] == 7 && memcmp(l, l + 1, 31) == 0 && work[0] == 7 && memcmp(work, work + 1, 31) == 0);
+  EXPECT(e[0] == 7 && memcmp(e, e + 1, 15) == 0 && p[0] == 7 && p[1] == 7);
+
+  // accepted: the matrix is its own factor
+  millracer_factorization f = millracer_factor_bytes(MILLRACER_SE90, a, 32, 2, l, 32, work, 32, e, 16, p, 2);
+  EXPECT(is(f.refusal, 0, 0, 0) && f.tied == 0 && f.phase2 == MILLRACER_NO_STEP);
+  const uint8_t zeros[32] = {0};
+  EXPECT(memcmp(l, a, 32) == 0 && memcmp(work, zeros, 32) == 0 && memcmp(e, zeros, 16) == 0);
+  EXPECT(p[0] == 0 && p[1] == 1);
+}
+
 static void records(void) {
   static uint8_t answer[MILLRACER_LONGEST_ANSWER + 1];
   const uint8_t record[] = {1, 1, 0, 1, 2, 1, 0, 4, 3, 8, 0, 0, 0, 0, 0, 0, 0, 0x10, 0x40};
   const uint8_t refused[] = {0x11, 1, 0, 2, 0x12, 1, 0, 0xff, 0x13, 1, 0, 0xff, 0x17, 2, 0, 0, 0};
   answer[0] = 7;
-  EXPECT(millracer_record(record, sizeof record, answer, sizeof answer) == 0 && answer[0] == 7);
-  EXPECT(millracer_record(record, sizeof record, answer, MILLRACER_LONGEST_ANSWER) == sizeof refused);
+  millracer_written w = millracer_record(record, sizeof record, answer, sizeof answer);
+  EXPECT(is(w.refusal, MILLRACER_UNKNOWN_METHOD, 0, 0) && w.length == 0 && answer[0] == 7);
+  const uint8_t sound[] = {1, 1, 0, 1, 2, 1, 0, 1, 3, 8, 0, 0, 0, 0, 0, 0, 0, 0x10, 0x40};
+  const size_t other_lengths[] = {0, MILLRACER_LONGEST_ANSWER - 1, MILLRACER_LONGEST_ANSWER + 1};
+  for (size_t i = 0; i < 3; i++) {
+    w = millracer_record(sound, sizeof sound, answer, other_lengths[i]);
+    EXPECT(is(w.refusal, MILLRACER_BUFFER_LENGTH, 0, 0) && w.length == 0 && answer[0] == 7);
+  }
+  w = millracer_record(sound, sizeof sound, answer, MILLRACER_LONGEST_ANSWER);
+  EXPECT(is(w.refusal, 0, 0, 0) && w.length == 38 && answer[w.length] == 0);
+  w = millracer_record(record, sizeof record, answer, MILLRACER_LONGEST_ANSWER);
+  EXPECT(is(w.refusal, MILLRACER_UNKNOWN_METHOD, 0, 0) && w.length == sizeof refused);
   EXPECT(memcmp(answer, refused, sizeof refused) == 0);
 }
 
@@ -88,6 +153,7 @@ int main(void) {
   values();
   matrices();
   factorizations();
+  lengths_in_bytes();
   records();
   if (!failed) printf("exports: every call answers from C\n");
   return failed;

@@ -1,4 +1,4 @@
-// Compares the proved root with the machine's own, bit for bit: every NaN counts as the same.
+// Compares the proved root with the machine's own, bit for bit, and its refusals with the operand.
 // sqrt MILLIONS [SEED]
 #include <math.h>
 #include <stdint.h>
@@ -6,7 +6,7 @@
 #include <stdlib.h>
 #include <string.h>
 
-double millracer_sqrt(double x);
+#include "../bindings/millracer.h"
 
 static uint64_t state;
 
@@ -31,16 +31,22 @@ static uint64_t to_bits(double x) {
 
 static uint64_t compared, different;
 
-static void compare(double x) {
+static millracer_root machine(double x) {
   // volatile: the machine's root, and not one folded by the compiler
   volatile double operand = x;
-  double expected = sqrt(operand);
-  double got = millracer_sqrt(x);
+  if (!isfinite(x)) return (millracer_root){{MILLRACER_NOT_FINITE, 0, 0}, 0};
+  if (x < 0) return (millracer_root){{MILLRACER_STORED_NOT_FINITE, 0, 0}, 0};
+  return (millracer_root){{MILLRACER_COMPLETE, 0, 0}, sqrt(operand)};
+}
+
+static void compare(double x) {
+  millracer_root expected = machine(x), got = millracer_sqrt(x);
   compared++;
-  if (isnan(expected) ? isnan(got) : to_bits(expected) == to_bits(got)) return;
+  if (memcmp(&expected, &got, sizeof got) == 0) return;
   if (different++ < 10)
-    printf("operand %016llx: expected %016llx, got %016llx\n", (unsigned long long)to_bits(x),
-           (unsigned long long)to_bits(expected), (unsigned long long)to_bits(got));
+    printf("operand %016llx: expected %zu %016llx, got %zu %016llx\n", (unsigned long long)to_bits(x),
+           expected.refusal.number, (unsigned long long)to_bits(expected.value), got.refusal.number,
+           (unsigned long long)to_bits(got.value));
 }
 
 // The pattern and the two on each side of it.

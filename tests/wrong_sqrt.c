@@ -2,16 +2,25 @@
 #include <float.h>
 #include <math.h>
 
-double millracer_sqrt(double x) {
+#include "../bindings/millracer.h"
+
+static double wrong(double x, double r) {
+  switch (WRONG) {
+    case 1:  // always rounded down
+      return fma(r, r, -x) > 0 ? nextafter(r, 0) : r;
+    case 2:  // wrong for subnormals alone
+      return x > 0 && x < DBL_MIN ? nextafter(r, 1) : r;
+    case 3:  // +0.0 for -0.0
+      return x == 0 ? 0 : r;
+    default:
+      return r;
+  }
+}
+
+millracer_root millracer_sqrt(double x) {
   volatile double operand = x;
-  double r = sqrt(operand);
-#if WRONG == 1  // always rounded down
-  return fma(r, r, -x) > 0 ? nextafter(r, 0) : r;
-#elif WRONG == 2  // wrong for subnormals alone
-  return x > 0 && x < DBL_MIN ? nextafter(r, 1) : r;
-#elif WRONG == 3  // +0.0 for -0.0
-  return x == 0 ? 0 : r;
-#else  // zero for negative numbers
-  return x < 0 ? 0 : r;
-#endif
+  if (!isfinite(x)) return (millracer_root){{MILLRACER_NOT_FINITE, 0, 0}, 0};
+  // 4: negative numbers are not refused
+  if (x < 0) return (millracer_root){{WRONG == 4 ? MILLRACER_COMPLETE : MILLRACER_STORED_NOT_FINITE, 0, 0}, 0};
+  return (millracer_root){{MILLRACER_COMPLETE, 0, 0}, wrong(x, sqrt(operand))};
 }

@@ -1,5 +1,5 @@
-//! Microseconds a factorization of the proved code, of the Rust and of plain C on the same matrices,
-//! and the ratios, for each method at n = 8, 24 and 48.
+//! Microseconds a factorization of the proved code (its call on doubles), of the Rust and of plain C on
+//! the same matrices, and the ratios, for each method at n = 8, 24 and 48.
 
 use millracer::{factor, Method};
 use modcholesky::{ModCholeskyGMW81, ModCholeskySE90, ModCholeskySE99};

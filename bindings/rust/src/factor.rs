@@ -50,7 +50,7 @@ pub fn factor(
     p: &mut [usize],
 ) -> Ended {
     let answer = unsafe {
-        ffi::millracer_factor(
+        ffi::millracer_factor_doubles(
             method as usize,
             a.as_ptr(),
             a.len(),

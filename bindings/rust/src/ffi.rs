@@ -1,4 +1,5 @@
 //! The archive's functions, as bindings/millracer.h declares them: a slice is a pointer and a length.
+//! Those named `.._bytes` take doubles as bytes, eight each with the low byte first.
 
 #[repr(C)]
 pub struct Refusal {
@@ -12,6 +13,12 @@ pub struct Factorization {
     pub refusal: Refusal,
     pub tied: usize,
     pub phase2: usize,
+}
+
+#[repr(C)]
+pub struct Written {
+    pub refusal: Refusal,
+    pub length: usize,
 }
 
 #[repr(C)]
@@ -34,7 +41,7 @@ pub struct FoundIndex {
 }
 
 extern "C" {
-    pub fn millracer_factor(
+    pub fn millracer_factor_doubles(
         method: usize,
         a: *const f64,
         a_len: usize,
@@ -48,50 +55,65 @@ extern "C" {
         p: *mut usize,
         p_len: usize,
     ) -> Factorization;
+    // By the comparison alone.
+    #[allow(dead_code)]
+    pub fn millracer_factor_bytes(
+        method: usize,
+        a: *const u8,
+        a_len: usize,
+        n: usize,
+        l: *mut u8,
+        l_len: usize,
+        work: *mut u8,
+        work_len: usize,
+        e: *mut u8,
+        e_len: usize,
+        p: *mut u8,
+        p_len: usize,
+    ) -> Factorization;
     pub fn millracer_record(
         record: *const u8,
         record_len: usize,
         answer: *mut u8,
         answer_len: usize,
-    ) -> usize;
-    pub fn millracer_sqrt(x: f64) -> f64;
-    pub fn millracer_checked_sqrt(x: f64) -> Root;
+    ) -> Written;
+    pub fn millracer_sqrt(x: f64) -> Root;
     pub fn millracer_eigenvalues_2x2(a: f64, b: f64, c: f64, d: f64) -> Eigenvalues;
-    pub fn millracer_index_of_largest(c: *const f64, c_len: usize) -> FoundIndex;
-    pub fn millracer_index_of_largest_abs(c: *const f64, c_len: usize) -> FoundIndex;
-    pub fn millracer_swap_rows(
-        mat: *mut f64,
+    pub fn millracer_index_of_largest_bytes(c: *const u8, c_len: usize) -> FoundIndex;
+    pub fn millracer_index_of_largest_abs_bytes(c: *const u8, c_len: usize) -> FoundIndex;
+    pub fn millracer_swap_rows_bytes(
+        mat: *mut u8,
         mat_len: usize,
         n: usize,
         idx1: usize,
         idx2: usize,
     ) -> Refusal;
-    pub fn millracer_swap_columns(
-        mat: *mut f64,
+    pub fn millracer_swap_columns_bytes(
+        mat: *mut u8,
         mat_len: usize,
         n: usize,
         idx1: usize,
         idx2: usize,
     ) -> Refusal;
-    pub fn millracer_index_to_permutation_mat(
-        idxs: *const usize,
+    pub fn millracer_index_to_permutation_mat_bytes(
+        idxs: *const u8,
         idxs_len: usize,
-        mat: *mut f64,
+        mat: *mut u8,
         mat_len: usize,
     ) -> Refusal;
-    pub fn millracer_diag_mat_from_arr(
-        arr: *const f64,
+    pub fn millracer_diag_mat_from_arr_bytes(
+        arr: *const u8,
         arr_len: usize,
-        mat: *mut f64,
+        mat: *mut u8,
         mat_len: usize,
     ) -> Refusal;
-    pub fn millracer_gershgorin_circles(
-        mat: *const f64,
+    pub fn millracer_gershgorin_circles_bytes(
+        mat: *const u8,
         mat_len: usize,
         n: usize,
-        centres: *mut f64,
+        centres: *mut u8,
         centres_len: usize,
-        radii: *mut f64,
+        radii: *mut u8,
         radii_len: usize,
     ) -> Refusal;
 }

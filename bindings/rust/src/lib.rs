@@ -25,9 +25,9 @@ pub use helpers::{
     diag_mat_from_arr, eigenvalues_2x2, gershgorin_circles, index_of_largest, index_of_largest_abs,
     index_to_permutation_mat, swap_columns, swap_rows, Eigen,
 };
-pub use record::record;
+pub use record::{record, record_answer, RecordAnswer};
 pub use refusal::Refusal;
-pub use root::{checked_sqrt, sqrt};
+pub use root::sqrt;
 
 /// The largest n of a matrix.
 pub const MAX_N: usize = 48;

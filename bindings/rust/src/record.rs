@@ -1,12 +1,20 @@
 use crate::ffi;
+use crate::refusal::{ended, Refusal};
 
 /// The bytes of the longest answer record.
 const LONGEST_ANSWER: usize = 18885;
 
-/// The answer record to a matrix record, any bytes.
-pub fn record(record: &[u8]) -> Vec<u8> {
+/// An answer record, and the refusal that it tells of.
+#[derive(Clone, Debug, PartialEq, Eq)]
+pub struct RecordAnswer {
+    pub outcome: Result<(), Refusal>,
+    pub answer: Vec<u8>,
+}
+
+/// The answer to a matrix record, any bytes. A refused record has one too.
+pub fn record_answer(record: &[u8]) -> RecordAnswer {
     let mut answer = vec![0; LONGEST_ANSWER];
-    let len = unsafe {
+    let written = unsafe {
         ffi::millracer_record(
             record.as_ptr(),
             record.len(),
@@ -14,6 +22,14 @@ pub fn record(record: &[u8]) -> Vec<u8> {
             answer.len(),
         )
     };
-    answer.truncate(len);
-    answer
+    answer.truncate(written.length);
+    RecordAnswer {
+        outcome: ended(written.refusal),
+        answer,
+    }
+}
+
+/// The answer record to a matrix record, any bytes.
+pub fn record(record: &[u8]) -> Vec<u8> {
+    record_answer(record).answer
 }

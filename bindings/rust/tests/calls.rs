@@ -6,18 +6,14 @@ const INFINITY: f64 = f64::INFINITY;
 
 #[test]
 fn root() {
-    assert_eq!(sqrt(2.0).to_bits(), 2f64.sqrt().to_bits());
-    assert_eq!(sqrt(-0.0).to_bits(), (-0.0f64).to_bits());
-    assert!(sqrt(-1.0).is_nan());
-    assert_eq!(checked_sqrt(f64::from_bits(1)), Ok(2f64.powi(-537)));
+    assert_eq!(sqrt(2.0), Ok(2f64.sqrt()));
+    assert_eq!(sqrt(-0.0).map(f64::to_bits), Ok((-0.0f64).to_bits()));
+    assert_eq!(sqrt(f64::from_bits(1)), Ok(2f64.powi(-537)));
     assert_eq!(
-        checked_sqrt(INFINITY),
+        sqrt(INFINITY),
         Err(Refusal::NotFinite { row: 0, column: 0 })
     );
-    assert_eq!(
-        checked_sqrt(-1.0),
-        Err(Refusal::StoredNotFinite { step: 0 })
-    );
+    assert_eq!(sqrt(-1.0), Err(Refusal::StoredNotFinite { step: 0 }));
 }
 
 #[test]
@@ -80,10 +76,20 @@ fn plain_matrices() {
         index_to_permutation_mat(&[1, 2]),
         Err(Refusal::IndexOutOfRange { position: 1 })
     );
-    assert_eq!(
-        index_to_permutation_mat(&[0; 49]),
-        Err(Refusal::SizeOutOfRange)
-    );
+    for index in [255, 256, 257, usize::MAX] {
+        assert_eq!(
+            index_to_permutation_mat(&[0, 1, index]),
+            Err(Refusal::IndexOutOfRange { position: 2 })
+        );
+    }
+    for list in [vec![], vec![0; 49], vec![0; 300]] {
+        assert_eq!(
+            index_to_permutation_mat(&list),
+            Err(Refusal::SizeOutOfRange)
+        );
+        let list = vec![0.0; list.len()];
+        assert_eq!(diag_mat_from_arr(&list), Err(Refusal::SizeOutOfRange));
+    }
     assert_eq!(diag_mat_from_arr(&[5.0, 6.0]), Ok(vec![5.0, 0.0, 0.0, 6.0]));
     assert_eq!(
         diag_mat_from_arr(&[5.0, INFINITY]),
@@ -192,4 +198,16 @@ fn records() {
     ];
     assert_eq!(record(&[]), malformed);
     assert_eq!(record(&[0; 20000]), malformed);
+
+    assert_eq!(record_answer(&matrix).outcome, Ok(()));
+    assert_eq!(record_answer(&matrix).answer, record(&matrix));
+    let refused = record_answer(&[]);
+    assert_eq!(refused.outcome, Err(Refusal::MalformedRecord));
+    assert_eq!(refused.answer, malformed);
+    let mut infinite = matrix;
+    infinite[17..].copy_from_slice(&[0xf0, 0x7f]);
+    assert_eq!(
+        record_answer(&infinite).outcome,
+        Err(Refusal::NotFinite { row: 0, column: 0 })
+    );
 }

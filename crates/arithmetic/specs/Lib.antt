@@ -8,3 +8,4 @@ pub mod Sqrt
 pub mod SqrtStages
 pub mod Nearest
 pub mod AtLeast
+pub mod DoubleList

@@ -57,6 +57,6 @@ sqrt (fin false (suc m) e) = rootOf (magnitudeOf (suc m) e)
 abbrev pub sqrt-checks : Float → Outcome
 sqrt-checks x = refuse (not (finite x)) (NotFinite 0 0) then refuse (lt x plus-zero) (StoredNotFinite 0)
 
-unfoldable pub checked-sqrt : Float → SqrtAnswer
+unfoldable pub sqrt-call : Float → SqrtAnswer
 unfolding sqrt lt
-checked-sqrt x = record { outcome = sqrt-checks x; value = cond (complete (sqrt-checks x)) (sqrt x) plus-zero }
+sqrt-call x = record { outcome = sqrt-checks x; value = cond (complete (sqrt-checks x)) (sqrt x) plus-zero }

@@ -4,7 +4,7 @@ ghost use mathlib.Core.Path.{_≡_};
 ghost use Prim.Native.Nat.{_+_, _*_, _^_, _≤_, _<_};
 ghost use lib.Dec.{T};
 ghost use lib.Ieee.Positive.{positive};
-ghost use Rattle.arithmetic.specs.Sqrt.{magnitude, nearestTo, sqrt, checked-sqrt};
+ghost use Rattle.arithmetic.specs.Sqrt.{magnitude, nearestTo, sqrt, sqrt-call};
 ghost use Rattle.arithmetic.specs.SqrtStages.{Remainder, Digits, Significand, Bounded, WholeRoot};
 use crate::double::finite;
 use crate::outcome::Outcome;
@@ -151,7 +151,7 @@ fn round(p: Root) -> f64
 }
 
 // The root inside a run: a negative number's is NaN.
-pub fn sqrt(x: f64) -> f64
+pub fn sqrt_unchecked(x: f64) -> f64
     ensures { λ r. ⌜ r ≡ sqrt x ⌝ }
 {
     if x == 0.0 {
@@ -173,8 +173,8 @@ pub struct SqrtAnswer {
     pub value: f64,
 }
 
-pub fn checked_sqrt(x: f64) -> SqrtAnswer
-    ensures { λ r. ⌜ r ≡ checked-sqrt x ⌝ }
+pub fn sqrt(x: f64) -> SqrtAnswer
+    ensures { λ r. ⌜ r ≡ sqrt-call x ⌝ }
 {
     if !finite(x) {
         return SqrtAnswer {
@@ -190,6 +190,6 @@ pub fn checked_sqrt(x: f64) -> SqrtAnswer
     }
     SqrtAnswer {
         outcome: Outcome::Complete,
-        value: sqrt(x),
+        value: sqrt_unchecked(x),
     }
 }

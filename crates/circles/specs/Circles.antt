@@ -73,8 +73,8 @@ gershgorin-circles n mat centres radii =
     (circlesCall (overflow n mat) (setEach (centre n mat) n centres) (setEach (radius n mat) n radii))
     (circlesCall (overflow n mat) (zeros n) (zeros n))
 
-abbrev pub checked-gershgorin-circles : ℕ → List Float → List Float → List Float → CirclesCall
-checked-gershgorin-circles n mat centres radii =
+abbrev pub gershgorin-circles-call : ℕ → List Float → List Float → List Float → CirclesCall
+gershgorin-circles-call n mat centres radii =
     cond (complete (circle-checks n mat (length centres) (length radii)))
     (gershgorin-circles n mat centres radii)
     (circlesCall (circle-checks n mat (length centres) (length radii)) centres radii)

@@ -3,7 +3,7 @@ ghost use mathlib.Core.Path.{_≡_};
 ghost use Prim.Native.Nat.{_+_, _<_};
 ghost use lib.ListN.{length};
 ghost use Rattle.matrix.specs.Matrix.{Square};
-ghost use Rattle.circles.specs.Circles.{addMagnitudes, sums, overflows, circlesCall, circle-checks, gershgorin-circles, checked-gershgorin-circles};
+ghost use Rattle.circles.specs.Circles.{addMagnitudes, sums, overflows, circlesCall, circle-checks, gershgorin-circles, gershgorin-circles-call};
 use arithmetic::double::abs;
 use arithmetic::double::finite;
 use arithmetic::double::min;
@@ -54,7 +54,12 @@ fn overflows(s: Sums) -> bool
     true
 }
 
-pub fn gershgorin_circles(mat: &[f64], n: usize, centres: &mut [f64], radii: &mut [f64]) -> Outcome
+pub fn gershgorin_circles_unchecked(
+    mat: &[f64],
+    n: usize,
+    centres: &mut [f64],
+    radii: &mut [f64],
+) -> Outcome
     requires { ⌜ Square n (now mat) ⌝ }
     requires { ⌜ (length (now centres) ≡ n) × (length (now radii) ≡ n) ⌝ }
     ensures { λ r. ⌜ circlesCall r (now (centres .exit)) (now (radii .exit)) ≡ gershgorin-circles n (now (mat .entry)) (now (centres .entry)) (now (radii .entry)) ⌝ }
@@ -82,17 +87,12 @@ fn circle_checks(mat: &[f64], n: usize, centres: usize, radii: usize) -> Outcome
         .then(checks::check_finite(n, mat))
 }
 
-pub fn checked_gershgorin_circles(
-    mat: &[f64],
-    n: usize,
-    centres: &mut [f64],
-    radii: &mut [f64],
-) -> Outcome
-    ensures { λ r. ⌜ circlesCall r (now (centres .exit)) (now (radii .exit)) ≡ checked-gershgorin-circles n (now (mat .entry)) (now (centres .entry)) (now (radii .entry)) ⌝ }
+pub fn gershgorin_circles(mat: &[f64], n: usize, centres: &mut [f64], radii: &mut [f64]) -> Outcome
+    ensures { λ r. ⌜ circlesCall r (now (centres .exit)) (now (radii .exit)) ≡ gershgorin-circles-call n (now (mat .entry)) (now (centres .entry)) (now (radii .entry)) ⌝ }
 {
     let outcome = circle_checks(mat, n, centres.len(), radii.len());
     if !outcome.complete() {
         return outcome;
     }
-    gershgorin_circles(mat, n, centres, radii)
+    gershgorin_circles_unchecked(mat, n, centres, radii)
 }

@@ -2,7 +2,8 @@
 ghost use mathlib.Core.Path.{_≡_};
 ghost use Rattle.methods.specs.Calls.{factor-call};
 ghost use Rattle.record.specs.AnswerRecord.{stepByte};
-ghost use Rattle.exports.specs.Exports.{factorization, factorExport};
+ghost use Rattle.byte_factor.specs.Factor.{factor-bytes-call};
+ghost use Rattle.exports.specs.Exports.{factorization, factorBytesExport, factorDoublesExport};
 use crate::refusal::Refusal;
 use methods::decomposition::Decomposition;
 use methods::decomposition::Mark;
@@ -41,7 +42,23 @@ fn step_number(mark: Mark) -> usize
 }
 
 #[no_mangle]
-pub extern "C" fn millracer_factor(
+pub extern "C" fn millracer_factor_bytes(
+    method: usize,
+    a: &[u8],
+    n: usize,
+    l: &mut [u8],
+    work: &mut [u8],
+    e: &mut [u8],
+    p: &mut [u8],
+) -> Factorization
+    ensures { λ r. ⌜ record { factorization = r; l = now (l .exit); work = now (work .exit); e = now (e .exit); p = now (p .exit) } ≡ factorBytesExport (factor-bytes-call method n (now (a .entry)) (now (l .entry)) (now (work .entry)) (now (e .entry)) (now (p .entry))) ⌝ }
+{
+    Factorization::of(byte_factor::factor(method, a, n, l, work, e, p))
+}
+
+// The same on slices of doubles, for callers that have them.
+#[no_mangle]
+pub extern "C" fn millracer_factor_doubles(
     method: usize,
     a: &[f64],
     n: usize,
@@ -50,7 +67,7 @@ pub extern "C" fn millracer_factor(
     e: &mut [f64],
     p: &mut [usize],
 ) -> Factorization
-    ensures { λ r. ⌜ record { factorization = r; l = now (l .exit); work = now (work .exit); e = now (e .exit); p = now (p .exit) } ≡ factorExport (factor-call method n (now (a .entry)) (now (l .entry)) (now (work .entry)) (now (e .entry)) (now (p .entry))) ⌝ }
+    ensures { λ r. ⌜ record { factorization = r; l = now (l .exit); work = now (work .exit); e = now (e .exit); p = now (p .exit) } ≡ factorDoublesExport (factor-call method n (now (a .entry)) (now (l .entry)) (now (work .entry)) (now (e .entry)) (now (p .entry))) ⌝ }
 {
     Factorization::of(factor(method, a, n, l, work, e, p))
 }

@@ -1,10 +1,9 @@
 // The square root.
 ghost use mathlib.Core.Path.{_≡_};
-ghost use Rattle.arithmetic.specs.Sqrt.{sqrt, checked-sqrt};
+ghost use Rattle.arithmetic.specs.Sqrt.{sqrt-call};
 ghost use Rattle.exports.specs.Exports.{root};
 use crate::refusal::Refusal;
 use arithmetic::sqrt::SqrtAnswer;
-use arithmetic::sqrt::checked_sqrt;
 use arithmetic::sqrt::sqrt;
 
 #[repr(C)]
@@ -26,15 +25,8 @@ impl Root {
 }
 
 #[no_mangle]
-pub extern "C" fn millracer_sqrt(x: f64) -> f64
-    ensures { λ r. ⌜ r ≡ sqrt x ⌝ }
+pub extern "C" fn millracer_sqrt(x: f64) -> Root
+    ensures { λ r. ⌜ r ≡ root (sqrt-call x) ⌝ }
 {
-    sqrt(x)
-}
-
-#[no_mangle]
-pub extern "C" fn millracer_checked_sqrt(x: f64) -> Root
-    ensures { λ r. ⌜ r ≡ root (checked-sqrt x) ⌝ }
-{
-    Root::of(checked_sqrt(x))
+    Root::of(sqrt(x))
 }

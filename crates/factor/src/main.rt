@@ -1,4 +1,5 @@
-// Reads one matrix record from standard input and writes its answer record to standard output.
+// Reads one matrix record from standard input and writes its answer record to standard output, or says on standard error that it can't.
+use libc::STDERR_FILENO;
 use libc::STDIN_FILENO;
 use libc::STDOUT_FILENO;
 use record::answer::answer;
@@ -9,6 +10,8 @@ fn main() {
     let mut input = [0; 18444];
     let mut out = [0; LONGEST_ANSWER];
     let len = io::read_full(STDIN_FILENO, &mut input);
-    let n = answer(&input[..len], &mut out);
-    io::write_all(STDOUT_FILENO, &out[..n]);
+    let written = answer(&input[..len], &mut out);
+    if !io::write_all(STDOUT_FILENO, &out[..written.len]) {
+        io::write_all(STDERR_FILENO, b"factor: the answer could not be written\n");
+    }
 }

@@ -20,7 +20,7 @@ use arithmetic::double::abs;
 use arithmetic::double::finite;
 use arithmetic::double::max;
 use arithmetic::double::square;
-use arithmetic::sqrt::sqrt;
+use arithmetic::sqrt::sqrt_unchecked;
 use matrix::checks::list_finite;
 use matrix::entries::clear;
 use matrix::entries::get;
@@ -76,8 +76,8 @@ pub fn beta_of(n: usize, diag_max: f64, off_diag_max: f64) -> f64
     requires { ⌜ n ≤ 48 ⌝ }
     ensures { λ r. ⌜ r ≡ betaOf n «diag_max» «off_diag_max» ⌝ }
 {
-    let root = sqrt(square(n as f64) - 1.0);
-    sqrt(max(max(diag_max, off_diag_max / root), double::EPSILON))
+    let root = sqrt_unchecked(square(n as f64) - 1.0);
+    sqrt_unchecked(max(max(diag_max, off_diag_max / root), double::EPSILON))
 }
 
 fn start_diagonal(a: &[f64], c: &mut [f64], n: usize)
@@ -351,7 +351,7 @@ fn roots(d: &mut [f64])
 {
     let n = d.len();
     for i in 0..n {
-        d[i] = sqrt(d[i]);
+        d[i] = sqrt_unchecked(d[i]);
     }
 }
 

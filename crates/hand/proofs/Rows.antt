@@ -4,12 +4,12 @@ use mathlib.Core.List.{[], _∷_}
 use lib.Ieee.{add, sub, mul, div, lt, eq, neg, isNan, ofBits}
 use Rattle.arithmetic.specs.First.{firstFrom}
 use Rattle.arithmetic.specs.Outcome.{_then_}
-use Rattle.arithmetic.specs.Sqrt.{checked-sqrt}
+use Rattle.arithmetic.specs.Sqrt.{sqrt-call}
 use Rattle.arithmetic.specs.declared.outcome.Outcome.the-variants.{Complete, SizeOutOfRange}
 use Rattle.matrix.specs.Checks.{check-size}
 use Rattle.matrix.specs.Search.{largest}
 use Rattle.matrix.specs.Eigenvalues.{eigenvaluesOf}
-use Rattle.matrix.specs.Calls.{search-checks, checked-eigenvalues-2x2}
+use Rattle.matrix.specs.Calls.{search-checks, eigenvalues-2x2-call}
 use Rattle.circles.specs.Circles.{setEach, firstOverflow, circle-checks}
 use Rattle.methods.specs.Factor.{factor, tolerances}
 use Rattle.methods.specs.declared.method.Method.the-variants.{Se}
@@ -18,7 +18,7 @@ use Rattle.methods.specs.declared.schnabel_eskow.Variant.the-variants.{Se99}
 use Rattle.hand.specs.Hand.{4·, minus, All, rows}
 
 pub hand-calculations : All rows
-unfolding factor add sub mul div lt eq neg isNan ofBits firstFrom checked-sqrt checked-eigenvalues-2x2 search-checks largest circle-checks setEach firstOverflow _then_ eigenvaluesOf
+unfolding factor add sub mul div lt eq neg isNan ofBits firstFrom sqrt-call eigenvalues-2x2-call search-checks largest circle-checks setEach firstOverflow _then_ eigenvaluesOf
 hand-calculations = (refl, (refl, (refl, (refl, (refl, (refl, (refl, (refl, (refl, (refl, (refl, (refl, ((refl, refl), (refl, tt))))))))))))))
 
 -- ---- outside the table

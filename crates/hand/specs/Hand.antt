@@ -6,12 +6,12 @@ use Prim.Native.Nat.{ℕ}
 use lib.IntN.{pos, negsuc}
 use lib.Ieee.{Float, fin, neg, binary64, ofBits}
 use Rattle.arithmetic.specs.Double.{plus-zero}
-use Rattle.arithmetic.specs.Sqrt.{checked-sqrt}
+use Rattle.arithmetic.specs.Sqrt.{sqrt-call}
 use Rattle.arithmetic.specs.declared.outcome.Outcome.{Outcome}
 use Rattle.arithmetic.specs.declared.outcome.Outcome.the-variants.{Complete, StoredNotFinite}
 use Rattle.matrix.specs.Matrix.{zeros}
-use Rattle.matrix.specs.Calls.{checked-eigenvalues-2x2, checked-search}
-use Rattle.circles.specs.Circles.{checked-gershgorin-circles, circlesCall}
+use Rattle.matrix.specs.Calls.{eigenvalues-2x2-call, search-call}
+use Rattle.circles.specs.Circles.{gershgorin-circles-call, circlesCall}
 use Rattle.methods.specs.Factor.{factor, tolerances}
 use Rattle.methods.specs.declared.method.Method.{Method}
 use Rattle.methods.specs.declared.method.Method.the-variants.{Gmw81, Se}
@@ -77,11 +77,11 @@ pub data Row : Type 0 where
 abbrev pub Holds : Row → Type 0
 Holds (factorization method n a outcome tied phase2 l e p) =
     factor method tolerances n a ≡ record { decomposition = record { outcome = outcome; tied = tied; phase2 = phase2 }; l = l; e = e; p = p }
-Holds (eigenvalues mat hi lo) = checked-eigenvalues-2x2 mat ≡ record { outcome = Complete; eigen = record { hi = hi; lo = lo } }
-Holds (circles n mat centres radii) = checked-gershgorin-circles n mat (zeros n) (zeros n) ≡ circlesCall Complete centres radii
+Holds (eigenvalues mat hi lo) = eigenvalues-2x2-call mat ≡ record { outcome = Complete; eigen = record { hi = hi; lo = lo } }
+Holds (circles n mat centres radii) = gershgorin-circles-call n mat (zeros n) (zeros n) ≡ circlesCall Complete centres radii
 Holds (searches c index by-magnitude) =
-    (checked-search false c ≡ record { outcome = Complete; index = index }) × (checked-search true c ≡ record { outcome = Complete; index = by-magnitude })
-Holds (root x r) = checked-sqrt x ≡ record { outcome = Complete; value = r }
+    (search-call false c ≡ record { outcome = Complete; index = index }) × (search-call true c ≡ record { outcome = Complete; index = by-magnitude })
+Holds (root x r) = sqrt-call x ≡ record { outcome = Complete; value = r }
 
 abbrev pub All : List Row → Type 0
 All [] = Unit

@@ -16,7 +16,7 @@ use Rattle.methods.proofs.LoadOrders.{order}
 use Rattle.methods.proofs.MarkLaws.{clash}
 use Rattle.methods.proofs.Stopped.{Going}
 use Rattle.load_order.specs.LoadOrder.{AlikeThroughout, Alike}
-use Rattle.load_order.proofs.Lockstep.{Steps, InStep, Runs, together, apart}
+use Rattle.load_order.proofs.Lockstep.{Steps, InStep, Together, going-together, Runs, together, apart}
 
 -- a run's values at its end, before refusal 9's fillings
 pub record End : Type 0 where
@@ -34,13 +34,17 @@ pub record Completed (n : ℕ) (s : List ℕ) (A B : End) : Type 0 where
   pub amounts : (i : ℕ) → i < n → getD (B .e) i nan ≡ getD (A .e) (getD s i 0) nan
   pub pivots : (t : ℕ) → t < n → getD (A .p) t 0 ≡ getD s (getD (B .p) t 0) 0
 
+pub record BothAlike (n : ℕ) (s : List ℕ) (A B : End) : Type 0 where
+  pub same : A .progress ≡ B .progress
+  pub completed : A .progress .refused ≡ Never → Completed n s A B
+
 pub data Ended (n : ℕ) (s : List ℕ) (A B : End) : Type 0 where
   both-tied : (t : ℕ) → A .progress .tied ≡ Step t → B .progress .tied ≡ Step t → Ended n s A B
   both-left : (t : ℕ) → A .progress .tied ≡ B .progress .tied → A .progress .phase2 ≡ Step t → B .progress .phase2 ≡ Step t → Ended n s A B
-  both-alike : A .progress ≡ B .progress → (A .progress .refused ≡ Never → Completed n s A B) → Ended n s A B
+  both-alike : BothAlike n s A B → Ended n s A B
 
 -- ---- what is handed back
-refused-not-complete : (t : ℕ) → StoredNotFinite t ≡ Complete → ⊥
+pub refused-not-complete : (t : ℕ) → StoredNotFinite t ≡ Complete → ⊥
 refused-not-complete t e = let z : _≡_ {A = ℕ} 0 1 = cc in omega arith
 
 module _ (n : ℕ) (s : List ℕ) (A B : End) (L : LoadOrder n s) where
@@ -56,10 +60,10 @@ module _ (n : ℕ) (s : List ℕ) (A B : End) (L : LoadOrder n s) where
   pub ended-alike : Ended n s A B → Alike n s (handed n A) (handed n B)
   ended-alike (both-tied t p q) = record { tied = p ∙ sym q; phase2 = λ h. clash (A .progress .tied) t h p; throughout = λ h. clash (A .progress .tied) t h p }
   ended-alike (both-left t e p q) = record { tied = e; phase2 = λ h. p ∙ sym q; throughout = λ h k. clash (A .progress .phase2) t k p }
-  ended-alike (both-alike e c) = record {
-    tied = ap (λ (r : Progress). r .tied) e;
-    phase2 = λ h. ap (λ (r : Progress). r .phase2) e;
-    throughout = λ h k. throughout (A .progress .refused) refl (sym (ap (λ (r : Progress). r .refused) e)) c;
+  ended-alike (both-alike C) = record {
+    tied = ap (λ (r : Progress). r .tied) (C .same);
+    phase2 = λ h. ap (λ (r : Progress). r .phase2) (C .same);
+    throughout = λ h k. throughout (A .progress .refused) refl (sym (ap (λ (r : Progress). r .refused) (C .same))) (C .completed);
   }
 
 -- ---- from the end of the steps to the end of the run
@@ -70,10 +74,10 @@ pub record ProgressKept (r : Progress) (end : End) : Type 0 where
   pub refused : (t : ℕ) → r .refused ≡ Step t → r .phase2 ≡ Never → end .progress ≡ r
 
 module _ {Run : Type 0} (M : Steps Run) (n : ℕ) (s : List ℕ) (Values : (ℕ → ℕ) → ℕ → Run → Run → Type 0) (May : Type 0) (A B : Run) (A' B' : End)
-    (F : ProgressKept (M .progress A) A') (G : ProgressKept (M .progress B) B') where
-  pub runs-end : (InStep M n (order s) Values n A B → M .progress A ≡ M .progress B → Going (M .progress A) → Ended n s A' B') → Runs M n (order s) Values May n A B → Ended n s A' B'
-  runs-end complete (apart m t p q) = both-tied t (F .tied ∙ p) (G .tied ∙ q)
-  runs-end complete (together T) = go (M .progress A .phase2) refl (M .progress A .refused) refl
+    (F : ProgressKept (M .progress A) A') (G : ProgressKept (M .progress B) B') (complete : InStep M n (order s) Values n A B → M .progress A ≡ M .progress B → Going (M .progress A) → BothAlike n s A' B') where
+  pub runs-end : Runs M n (order s) Values May n A B → Ended n s A' B'
+  runs-end (apart m t p q) = both-tied t (F .tied ∙ p) (G .tied ∙ q)
+  runs-end (together T) = go (M .progress A .phase2) refl (M .progress A .refused) refl
     where
       go : (m : Mark) → M .progress A .phase2 ≡ m → (q : Mark) → M .progress A .refused ≡ q → Ended n s A' B'
       go (Step t) p q e = both-left t
@@ -82,5 +86,19 @@ module _ {Run : Type 0} (M : Steps Run) (n : ℕ) (s : List ℕ) (Values : (ℕ 
       go Never p (Step t) e =
           let same : A' .progress ≡ B' .progress =
           F .refused t e p ∙ T .same ∙ sym (G .refused t (sym (ap (λ (r : Progress). r .refused) (T .same)) ∙ e) (sym (ap (λ (r : Progress). r .phase2) (T .same)) ∙ p)) in
-          both-alike same (λ h. clash (A' .progress .refused) t h (ap (λ (r : Progress). r .refused) (F .refused t e p) ∙ e))
-      go Never p Never e = complete (rw p at (T .in-step e)) (T .same) (record { phase2 = p; refused = e })
+          both-alike (record { same = same; completed = λ h. clash (A' .progress .refused) t h (ap (λ (r : Progress). r .refused) (F .refused t e p) ∙ e) })
+      go Never p Never e = both-alike (complete (rw p at (T .in-step e)) (T .same) (record { phase2 = p; refused = e }))
+
+  -- .. where it is complete and has no second phase
+  pub together-end : Together M n (order s) Values n A B → A' .progress .phase2 ≡ Never → A' .progress .refused ≡ Never → BothAlike n s A' B'
+  together-end T p q = complete (going-together M n (order s) Values n A B G₁ T) (T .same) G₁
+    where
+      phase2 : M .progress A .phase2 ≡ Never
+      phase2 = sym (F .phase2) ∙ p
+
+      refused : (m : Mark) → M .progress A .refused ≡ m → M .progress A .refused ≡ Never
+      refused Never e = e
+      refused (Step t) e = clash (A' .progress .refused) t q (ap (λ (r : Progress). r .refused) (F .refused t e phase2) ∙ e)
+
+      G₁ : Going (M .progress A)
+      G₁ = record { phase2 = phase2; refused = refused (M .progress A .refused) refl }

@@ -4,7 +4,7 @@ use mathlib.Core.List.{List}
 use mathlib.Core.Bool.{Bool, true, false, _&&_, false≢true}
 use Prim.Native.Nat.{ℕ, suc, _+_, _≤_, _<_}
 use native.Mathlib.Omega.{arith}
-use lib.ListN.{length, set, length-set, length-replicate}
+use lib.ListN.{length, getD, set, length-set, length-replicate}
 use lib.Ieee.{Float, binary64}
 use lib.Ieee.Fits.{sub-fits}
 use lib.Ieee.Scale.{finite}
@@ -20,8 +20,10 @@ use Rattle.matrix.proofs.Bijection.{Bijection, Fixes, bijection-from}
 use Rattle.matrix.proofs.EntryLaws.{Entries}
 use Rattle.methods.specs.Marks.{marked}
 use Rattle.methods.specs.Progress.{searched, stored}
+use Rattle.methods.specs.Result.{identity}
 use Rattle.methods.specs.Statements.{diagonalMax, diagonal, pick, pivotMatrix}
-use Rattle.methods.specs.Gmw81.{Run, start, divideRow, dot, dOf, updateDiagonal, storedFinite, c₂Of, stepAt, step, doutOf, unitLower, product, scaledFinite, finish, run, offDiagonalMax, deltaOf, betaOf}
+use Rattle.methods.specs.Gmw81.{Run, start, divideRow, dot, dOf, updateDiagonal, storedFinite, c₂Of, stepAt, step, doutOf, unitLower, product, scaledFinite, finish, run, stepped, offDiagonalMax, deltaOf, betaOf}
+use Rattle.methods.specs.declared.decomposition.Mark.the-variants.{Never}
 use Rattle.methods.specs.declared.progress.Progress.{Progress}
 use Rattle.methods.proofs.Tests.{all-same, all-along}
 use Rattle.methods.proofs.Magnitudes.{offDiagonalMax-along}
@@ -30,13 +32,14 @@ use Rattle.methods.proofs.Refused.{goes-on}
 use Rattle.methods.proofs.Stopped.{Going}
 use Rattle.methods.proofs.Loaded.{Loaded, all-double, gamma-same}
 use Rattle.methods.proofs.LoadOrders.{order}
-use Rattle.methods.proofs.GmwLaws.{finish-stays, finish-goes}
+use Rattle.methods.proofs.GmwLaws.{finish-stays, finish-goes, finish-order}
 use Rattle.methods.proofs.GmwRuns.{l₂Of, c₃Of, stepD, stepE, stepTest}
 use Rattle.methods.proofs.GmwSteps.{column-at, diagonal-other, row-moved, row-fixed, column-moved, diagonal-moved, theta-moved, start-at, start-moved}
 use Rattle.load_order.proofs.Positions.{Pivoted, loaded-positions, same-pivots, same-amounts}
-use Rattle.load_order.proofs.Picks.{diagonal-picks}
+use Rattle.load_order.proofs.Picks.{diagonal-picks, diagonal-picks-first}
 use Rattle.load_order.proofs.Lockstep.{Steps, InStep, Together, Runs, Laws, runs}
-use Rattle.load_order.proofs.Ends.{End, Ended, both-alike, ProgressKept, runs-end}
+use Rattle.load_order.proofs.OwnSteps.{OrderLaws, Own, own}
+use Rattle.load_order.proofs.Ends.{End, Ended, BothAlike, ProgressKept, runs-end, together-end}
 
 -- the method: no test stands before its search
 abbrev steps : ℕ → Float → Float → Steps Run
@@ -206,6 +209,23 @@ module _ (n : ℕ) (delta beta : Float) (s : ℕ → ℕ) where
   unfolding step
   steps-runs s' A B D = runs (steps n delta beta) n s (Values n) Unit laws (start n A) (start n B) (starts s' A B D)
 
+  order-laws : OrderLaws (steps n delta beta) n s (Values n)
+  unfolding stepAt
+  order-laws = record {
+    leave-order = λ j r. refl;
+    step-order = λ j k tie r. refl;
+    picks-first = λ j A B pj L. diagonal-picks-first true n j (L .positions) (A .c) (B .c) pj (L .values .moved-c) (λ i p q. finite-number (at n (A .c) i i) (L .values .finite-c i p q));
+  }
+
+  start-order : (a : List Float) → start n a .p ≡ identity n
+  unfolding start
+  start-order a = refl
+
+  steps-own : (s' : ℕ → ℕ) (A B : List Float) → Loaded n s s' A B → ((t : ℕ) → t < n → s t ≡ getD (range 0 n (step n delta beta) (start n A) .p) t 0)
+      → Own (steps n delta beta) n s (Values n) n (range 0 n (step n delta beta) (start n A)) (range 0 n (step n delta beta) (start n B))
+  unfolding step
+  steps-own s' A B D h = own (steps n delta beta) n s (Values n) laws order-laws (start n A) (start n B) (record { together = starts s' A B D; unmoved = start-order B }) h
+
 -- ---- the scaled factor and the end
 abbrev pub endOf : Run → End
 endOf r = record { progress = r .progress; l = r .l; e = r .e; p = r .p }
@@ -218,33 +238,43 @@ finished n r = go (is (marked (r .progress .refused)))
     go (fails h) = rw (finish-goes n r h) (record { tied = refl; phase2 = refl; refused = λ t e p. absurd (false≢true (sym h ∙ ap marked e)) })
 
 module _ (n : ℕ) (delta beta : Float) (s : List ℕ) (A B : Run) where
-  complete : InStep (steps n delta beta) n (order s) (Values n) n A B → A .progress ≡ B .progress → Going (A .progress) → Ended n s (endOf (finish n A)) (endOf (finish n B))
+  complete : InStep (steps n delta beta) n (order s) (Values n) n A B → A .progress ≡ B .progress → Going (A .progress) → BothAlike n s (endOf (finish n A)) (endOf (finish n B))
   complete L same G =
       let l : A .l ≡ B .l = sym (moved-same n (L .positions .σ) (A .l) (B .l) (L .positions .fixes) (L .values .moved-l)) in
       let second = sym (ap (λ (r : Progress). r .refused) same) ∙ G .refused in
-      rw (finish-goes n A (ap marked (G .refused)), finish-goes n B (ap marked second)) (both-alike
-      (λ i. stored (scaledFinite n (doutOf n (L .values .same-d i)) (product n (unitLower n (l i)) (doutOf n (L .values .same-d i)))) n (same i))
-      (λ r. record {
-        factors = ap₂ (λ (x d : List Float). product n (unitLower n x) (doutOf n d)) l (L .values .same-d);
-        amounts = same-amounts (L .positions) (L .values .same-e) (L .values .lengthE);
-        pivots = same-pivots (L .positions);
-      }))
+      rw (finish-goes n A (ap marked (G .refused)), finish-goes n B (ap marked second)) (record {
+        same = λ i. stored (scaledFinite n (doutOf n (L .values .same-d i)) (product n (unitLower n (l i)) (doutOf n (L .values .same-d i)))) n (same i);
+        completed = λ r. record {
+          factors = ap₂ (λ (x d : List Float). product n (unitLower n x) (doutOf n d)) l (L .values .same-d);
+          amounts = same-amounts (L .positions) (L .values .same-e) (L .values .lengthE);
+          pivots = same-pivots (L .positions);
+        };
+      })
 
-  ends : Runs (steps n delta beta) n (order s) (Values n) Unit n A B → Ended n s (endOf (finish n A)) (endOf (finish n B))
-  ends R = runs-end (steps n delta beta) n s (Values n) Unit A B _ _ (finished n A) (finished n B) complete R
+-- the second run has the first one's delta and beta
+module _ (n : ℕ) (s s' : ℕ → ℕ) (A B : List Float) (D : Loaded n s s' A B) where
+  abbrev delta : Float
+  delta = deltaOf (diagonalMax n A) (offDiagonalMax n A)
 
-pub gmw81-ended : (n : ℕ) (s : List ℕ) (s' : ℕ → ℕ) (A B : List Float) → Loaded n (order s) s' A B → Ended n s (endOf (run n A)) (endOf (run n B))
-unfolding run
-gmw81-ended n s s' A B D =
-    subst (λ (v : Float). Ended n s (endOf (run n A)) (endOf (with-bounds (deltaOf v (offDiagonalMax n B)) (betaOf n v (offDiagonalMax n B)) B))) (gamma-same D)
-    (subst (λ (v : Float). Ended n s (endOf (run n A)) (endOf (with-bounds (deltaOf (diagonalMax n A) v) (betaOf n (diagonalMax n A) v) B))) (offDiagonalMax-along n (order s) s' A B (D .bijection) (D .moved .moved) (all-double D))
-    (ends n delta beta s _ _ (steps-runs n delta beta (order s) s' A B D)))
-  where
-    with-bounds : Float → Float → List Float → Run
-    with-bounds delta beta m = finish n (range 0 n (step n delta beta) (start n m))
+  abbrev beta : Float
+  beta = betaOf n (diagonalMax n A) (offDiagonalMax n A)
 
-    delta : Float
-    delta = deltaOf (diagonalMax n A) (offDiagonalMax n A)
+  second-run : finish n (range 0 n (step n delta beta) (start n B)) ≡ run n B
+  unfolding run
+  second-run = ap₂ (λ (v w : Float). finish n (range 0 n (step n (deltaOf v w) (betaOf n v w)) (start n B))) (gamma-same D) (offDiagonalMax-along n s s' A B (D .bijection) (D .moved .moved) (all-double D))
 
-    beta : Float
-    beta = betaOf n (diagonalMax n A) (offDiagonalMax n A)
+module _ (n : ℕ) (s : List ℕ) (s' : ℕ → ℕ) (A B : List Float) (D : Loaded n (order s) s' A B) where
+  abbrev M : Steps Run
+  M = steps n (delta n (order s) s' A B D) (beta n (order s) s' A B D)
+
+  pub gmw81-ended : Ended n s (endOf (run n A)) (endOf (run n B))
+  unfolding run
+  gmw81-ended = subst (λ (r : Run). Ended n s (endOf (run n A)) (endOf r)) (second-run n (order s) s' A B D)
+      (runs-end M n s (Values n) Unit _ _ _ _ (finished n _) (finished n _) (complete n _ _ s _ _) (steps-runs n _ _ (order s) s' A B D))
+
+  -- s is the first run's order
+  pub gmw81-own : run n A .p ≡ s → run n A .progress .phase2 ≡ Never → run n A .progress .refused ≡ Never → BothAlike n s (endOf (run n A)) (endOf (run n B))
+  unfolding run
+  gmw81-own e p q = subst (λ (r : Run). BothAlike n s (endOf (run n A)) (endOf r)) (second-run n (order s) s' A B D)
+      (together-end M n s (Values n) Unit _ _ _ _ (finished n _) (finished n _) (complete n _ _ s _ _)
+      (steps-own n _ _ (order s) s' A B D (λ t h. ap (λ (x : List ℕ). getD x t 0) (sym e ∙ finish-order n (stepped n A))) .together) p q)

@@ -1,7 +1,10 @@
 pub mod Positions
 pub mod Picks
 pub mod Lockstep
+pub mod OwnSteps
 pub mod Ends
 pub mod Gmw81
 pub mod Se
 pub mod Theorem
+pub mod Calls
+pub mod OwnOrder

@@ -55,6 +55,16 @@ module _ {Run : Type 0} (M : Steps Run) (n : ℕ) (s : ℕ → ℕ) (Values : (�
     pub same : M .progress A ≡ M .progress B
     pub in-step : M .progress A .refused ≡ Never → InStep (reached j (M .progress A .phase2)) A B
 
+  -- runs that stopped stand as they did; those that go on stand before step j
+  pub stopped-together : (j : ℕ) (A B : Run) → stopped (M .progress A) ≡ true → Together j A B → Together (suc j) A B
+  stopped-together j A B h T = record {
+    same = T .same;
+    in-step = λ r. subst (λ (i : ℕ). InStep i A B) (reached-stays j (suc j) (M .progress A .phase2) (M .progress A .refused) h r) (T .in-step r);
+  }
+
+  pub going-together : (j : ℕ) (A B : Run) → Going (M .progress A) → Together j A B → InStep j A B
+  going-together j A B G T = subst (λ (m : Mark). InStep (reached j m) A B) (G .phase2) (T .in-step (G .refused))
+
   -- May: whether ties may part the runs
   module _ (May : Type 0) where
     pub data Runs (j : ℕ) (A B : Run) : Type 0 where
@@ -115,14 +125,10 @@ module _ {Run : Type 0} (M : Steps Run) (n : ℕ) (s : ℕ → ℕ) (Values : (�
           second = ap stopped (sym (T .same))
 
           go : Is (stopped (M .progress A)) → Runs (suc j) (step M j A) (step M j B)
-          go (holds h) = rw (stays (M .progress) (next M j) A h, stays (M .progress) (next M j) B (second ∙ h)) (together (record {
-            same = T .same;
-            in-step = λ r. subst (λ (i : ℕ). InStep i A B) (reached-stays j (suc j) (M .progress A .phase2) (M .progress A .refused) h r) (T .in-step r);
-          }))
+          go (holds h) = rw (stays (M .progress) (next M j) A h, stays (M .progress) (next M j) B (second ∙ h)) (together (stopped-together j A B h T))
           go (fails h) =
               let G = going (M .progress A) h in
-              let L : InStep j A B = subst (λ (m : Mark). InStep (reached j m) A B) (G .phase2) (T .in-step (G .refused)) in
-              rw (goes (M .progress) (next M j) A h, goes (M .progress) (next M j) B (second ∙ h)) (next-runs j A B pj L (T .same) G)
+              rw (goes (M .progress) (next M j) A h, goes (M .progress) (next M j) B (second ∙ h)) (next-runs j A B pj (going-together j A B G T) (T .same) G)
 
       pub runs : (A B : Run) → Together 0 A B → Runs n (range 0 n (step M) A) (range 0 n (step M) B)
       runs A B T = range2-ind Runs 0 n (step M) (step M) A B (omega arith) (together T) (λ j p q r t. step-runs j r t q)

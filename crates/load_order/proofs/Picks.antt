@@ -1,20 +1,22 @@
--- The pivot searches of two runs: the first of equals corresponds unless it is tied.
-use mathlib.Core.Path.{_≡_, sym, ap, _∙_}
+-- The pivot searches of two runs: the first of equals corresponds unless it is tied, or where the second run looks at it first.
+use mathlib.Core.Path.{_≡_, sym, ap, _∙_, subst}
 use mathlib.Core.List.{List}
-use mathlib.Core.Bool.{Bool, true, false}
+use mathlib.Core.Bool.{Bool, true, false, false≢true}
 use Prim.Native.Nat.{ℕ, _+_, _-_, _≤_, _<_}
+use native.Mathlib.Nat.{add-zero}
+use native.Mathlib.Decide.{decLt}
 use native.Mathlib.Omega.{arith}
 use lib.ListN.{length, getD, drop, length-drop}
 use lib.Seq.{getD-drop}
 use lib.Ieee.{Float, nan, isNan}
 use Rattle.arithmetic.proofs.SignLaws.{abs-number}
 use Rattle.matrix.specs.Matrix.{at}
-use Rattle.matrix.specs.Search.{key}
+use Rattle.matrix.specs.Search.{key, largest}
 use Rattle.matrix.proofs.TableLaws.{getD-table}
 use Rattle.matrix.specs.declared.utils.Found.{Found}
 use Rattle.arithmetic.proofs.Cases.{Is, is, holds, fails}
-use Rattle.matrix.proofs.Bijection.{Bijection, bijection-from, counted, bijection-counted, Along}
-use Rattle.matrix.proofs.SearchLaws.{candidate, Numbers, tied-along, index-along}
+use Rattle.matrix.proofs.Bijection.{Bijection, inverse, bijection-from, counted, bijection-counted, Along, along-inverse}
+use Rattle.matrix.proofs.SearchLaws.{candidate, Numbers, Top, largest-top, largest-first, top-along, tied-along, index-along}
 use Rattle.methods.specs.Statements.{diagonal, pick}
 use Rattle.methods.proofs.Moved.{Moved}
 use Rattle.methods.proofs.Pivots.{length-diagonal, pick-below}
@@ -24,6 +26,12 @@ use Rattle.load_order.proofs.Positions.{Positions, Corresponding}
 pub data Picks (May : Type 0) (n : ℕ) (σ : ℕ → ℕ) (j : ℕ) (f g : Found) : Type 0 where
   correspond : f .tied ≡ g .tied → Corresponding n σ j (f .index) (g .index) → Picks May n σ j f g
   tied : May → f .tied ≡ true → g .tied ≡ true → Picks May n σ j f g
+
+-- .. where the first search finds what the second looks at first, so does the second, tied or not
+pub record PicksFirst (n : ℕ) (σ : ℕ → ℕ) (j : ℕ) (f g : Found) : Type 0 where
+  pub below : j + f .index < n
+  pub same-tie : f .tied ≡ g .tied
+  pub picked : σ j ≡ j + f .index → g .index ≡ 0
 
 key-number : (magnitude : Bool) (x : Float) → isNan x ≡ false → isNan (key magnitude x) ≡ false
 unfolding key
@@ -86,13 +94,48 @@ module _ (magnitude : Bool) (n j : ℕ) {s : ℕ → ℕ} {p q : List ℕ} (L : 
           let l : j ≤ σ (j + pick magnitude v j .index) = from .to-low (j + pick magnitude v j .index) (omega arith) h in
           correspond same-tie (record { here = pj; first = pick-below magnitude u n j (S .lengthA) pj; second = h; corresponds = omega (arith, same-position e) })
 
+  -- the first position of the second run holds the largest
+  numbers-v : Numbers (candidate magnitude (drop j v)) (n - j)
+  numbers-v i q = rw (dropped v i, S .moved (j + i) (omega arith))
+      (key-number magnitude (getD u (σ (j + i)) nan) (S .numbers (σ (j + i)) (from .to-low (j + i) (omega arith) (omega arith)) (from .to-high (j + i) (omega arith) (omega arith))))
+
+  first-top : σ j ≡ j + pick magnitude u j .index → Top (candidate magnitude (drop j v)) (n - j) 0
+  unfolding pick
+  first-top e =
+      let a = largest magnitude (drop j u) .index in
+      let z : counted j σ 0 ≡ a = ap (λ (x : ℕ). σ x - j) (add-zero j) ∙ omega (arith, e) in
+      let t : Top (candidate magnitude (drop j u)) (n - j) a = subst (λ (k : ℕ). Top (candidate magnitude (drop j u)) k a) left-u (largest-top magnitude (drop j u) (omega (arith, left-u))) in
+      subst (Top (candidate magnitude (drop j v)) (n - j)) (ap (counted j τ) (sym z) ∙ relative .from-to 0 (omega arith) (omega arith))
+      (top-along (n - j) (counted j τ) (counted j σ) (candidate magnitude (drop j v)) (candidate magnitude (drop j u)) (inverse relative)
+      (along-inverse (candidate magnitude (drop j u)) (candidate magnitude (drop j v)) relative along) a t)
+
+  first-picked : σ j ≡ j + pick magnitude u j .index → pick magnitude v j .index ≡ 0
+  unfolding pick
+  first-picked e =
+      let b = largest magnitude (drop j v) .index in
+      let h : 0 < length (drop j v) = omega (arith, left-v) in
+      elim (decLt 0 b) [
+        | yes l ↦ absurd (false≢true (sym (first-top e .top b (omega (arith, left-v, largest-top magnitude (drop j v) h .below))) ∙ largest-first magnitude (drop j v) h (subst (Numbers (candidate magnitude (drop j v))) (sym left-v) numbers-v) 0 l))
+        | no l ↦ omega arith
+      ]
+
+  pub picks-first : PicksFirst n σ j (pick magnitude u j) (pick magnitude v j)
+  picks-first = record { below = pick-below magnitude u n j (S .lengthA) pj; same-tie = same-tie; picked = first-picked }
+
 -- .. of the diagonals of two matrices
-pub diagonal-picks : (magnitude : Bool) (n j : ℕ) {s : ℕ → ℕ} {p q : List ℕ} (L : Positions n s j p q) (A B : List Float) → j < n → Moved n (L .σ) A B
-    → ((i : ℕ) → j ≤ i → i < n → isNan (at n A i i) ≡ false) → Picks Unit n (L .σ) j (pick magnitude (diagonal n A) j) (pick magnitude (diagonal n B) j)
-unfolding diagonal
-diagonal-picks magnitude n j L A B pj M nn = first-of-equals magnitude n j L (diagonal n A) (diagonal n B) pj (record {
-  lengthA = length-diagonal n A;
-  lengthB = length-diagonal n B;
-  moved = λ i q. getD-table n (λ k. at n B k k) i nan q ∙ M .moved i i q q ∙ sym (getD-table n (λ k. at n A k k) (L .σ i) nan (L .bijection .to-high i (omega arith) q));
-  numbers = λ i p q. rw (getD-table n (λ k. at n A k k) i nan q) (nn i p q);
-})
+module _ (magnitude : Bool) (n j : ℕ) {s : ℕ → ℕ} {p q : List ℕ} (L : Positions n s j p q) (A B : List Float) (pj : j < n) (M : Moved n (L .σ) A B)
+    (nn : (i : ℕ) → j ≤ i → i < n → isNan (at n A i i) ≡ false) where
+  diagonals : Searched n (L .σ) j (diagonal n A) (diagonal n B)
+  unfolding diagonal
+  diagonals = record {
+    lengthA = length-diagonal n A;
+    lengthB = length-diagonal n B;
+    moved = λ i q. getD-table n (λ k. at n B k k) i nan q ∙ M .moved i i q q ∙ sym (getD-table n (λ k. at n A k k) (L .σ i) nan (L .bijection .to-high i (omega arith) q));
+    numbers = λ i p q. rw (getD-table n (λ k. at n A k k) i nan q) (nn i p q);
+  }
+
+  pub diagonal-picks : Picks Unit n (L .σ) j (pick magnitude (diagonal n A) j) (pick magnitude (diagonal n B) j)
+  diagonal-picks = first-of-equals magnitude n j L (diagonal n A) (diagonal n B) pj diagonals
+
+  pub diagonal-picks-first : PicksFirst n (L .σ) j (pick magnitude (diagonal n A) j) (pick magnitude (diagonal n B) j)
+  diagonal-picks-first = picks-first magnitude n j L (diagonal n A) (diagonal n B) pj diagonals

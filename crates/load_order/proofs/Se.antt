@@ -6,7 +6,7 @@ use mathlib.Core.Bool.{Bool, true, false}
 use Prim.Native.Nat.{ℕ, suc, _+_, _<_}
 use native.Mathlib.Decide.{decLt}
 use native.Mathlib.Omega.{arith}
-use lib.ListN.{length, length-replicate}
+use lib.ListN.{length, getD, length-replicate}
 use lib.Dec.{T, ltb, eqb}
 use lib.Ieee.{Float, binary64, fits}
 use lib.Ieee.Fits.{cond-fits, sub-fits, div-fits}
@@ -20,7 +20,8 @@ use Rattle.matrix.proofs.SwapLaws.{transpose, transpose-lt}
 use Rattle.arithmetic.proofs.Cases.{Is, is, holds, fails}
 use Rattle.matrix.proofs.Bijection.{Bijection, Fixes, bijection-from}
 use Rattle.methods.specs.Progress.{searched, left, stored}
-use Rattle.methods.specs.Statements.{diagonalMax, diagonal, pick, pivotMatrix, eliminate, blockFinite, lowerTriangle, reorder}
+use Rattle.methods.specs.Result.{identity}
+use Rattle.methods.specs.Statements.{diagonalMax, diagonal, pick, pivotMatrix, pivotList, eliminate, blockFinite, lowerTriangle, reorder}
 use Rattle.methods.specs.Se.{Run, start, leavesBefore, leavesAfter, leave, pivot, factorize, stepAt, phaseOneStep, inPhaseOne, phaseOne, phaseTwoStepAt, pairOf, oneOf, addPair, addOne, lastPair, lastOne, begin, phaseTwoAfter, phaseTwo, run}
 use Rattle.methods.specs.declared.decomposition.Mark.the-variants.{Never}
 use Rattle.methods.specs.declared.progress.Progress.{Progress}
@@ -35,9 +36,10 @@ use Rattle.methods.proofs.SeRuns.{KeptInPhaseTwo, phaseTwo-keeps}
 use Rattle.methods.proofs.Loaded.{Good, Loaded, gamma-same}
 use Rattle.methods.proofs.LoadOrders.{order}
 use Rattle.load_order.proofs.Positions.{Pivoted, earlier, loaded-positions, same-pivots, same-amounts}
-use Rattle.load_order.proofs.Picks.{diagonal-picks}
+use Rattle.load_order.proofs.Picks.{diagonal-picks, diagonal-picks-first}
 use Rattle.load_order.proofs.Lockstep.{Steps, InStep, Together, Runs, Laws, runs}
-use Rattle.load_order.proofs.Ends.{End, Ended, both-alike, ProgressKept, runs-end}
+use Rattle.load_order.proofs.OwnSteps.{OrderLaws, Own, own}
+use Rattle.load_order.proofs.Ends.{End, Ended, BothAlike, ProgressKept, runs-end, together-end}
 
 abbrev AllGood : ℕ → List Float → Type 0
 AllGood n m = (x y : ℕ) → x < n → y < n → Good (at n m x y)
@@ -196,6 +198,30 @@ module _ (v : Variant) (t : Tolerances) (gamma : Float) (n : ℕ) (s : ℕ → �
   unfolding phaseOne inPhaseOne phaseOneStep
   phase-one-runs s' A B D = runs (steps v t gamma n) n s (Values n) Unit laws (start n A) (start n B) (starts s' A B D)
 
+  step-order : (j k : ℕ) (tie : Bool) (r : Run) → stepAt v t gamma n j k tie r .p ≡ pivotList 0 j k (r .p)
+  unfolding stepAt pivot factorize
+  step-order j k tie r = go (is (leavesAfter v t gamma n j (pivotMatrix n j k (r .l))))
+    where
+      go : Is (leavesAfter v t gamma n j (pivotMatrix n j k (r .l))) → stepAt v t gamma n j k tie r .p ≡ pivotList 0 j k (r .p)
+      go (holds p) = rw p
+      go (fails p) = rw p
+
+  order-laws : OrderLaws (steps v t gamma n) n s (Values n)
+  order-laws = record {
+    leave-order = λ j r. refl;
+    step-order = step-order;
+    picks-first = λ j A B pj L. diagonal-picks-first false n j (L .positions) (A .l) (B .l) pj (L .values .moved) (λ i p q. finite-number (at n (A .l) i i) (L .values .good i i q q .number));
+  }
+
+  start-order : (a : List Float) → start n a .p ≡ identity n
+  unfolding start
+  start-order a = refl
+
+  phase-one-own : (s' : ℕ → ℕ) (A B : List Float) → Loaded n s s' A B → ((i : ℕ) → i < n → s i ≡ getD (phaseOne v t gamma n (start n A) .p) i 0)
+      → Own (steps v t gamma n) n s (Values n) n (phaseOne v t gamma n (start n A)) (phaseOne v t gamma n (start n B))
+  unfolding phaseOne inPhaseOne phaseOneStep
+  phase-one-own s' A B D h = own (steps v t gamma n) n s (Values n) laws order-laws (start n A) (start n B) (record { together = starts s' A B D; unmoved = start-order B }) h
+
 -- ---- phase two keeps the marks
 record SameMarks (r q : Run) : Type 0 where
   tied : q .progress .tied ≡ r .progress .tied
@@ -228,22 +254,40 @@ module _ (v : Variant) (t : Tolerances) (gamma : Float) (n : ℕ) where
 
   -- ---- the end
   complete : (s : List ℕ) (A B : Run) → InStep (steps v t gamma n) n (order s) (Values n) n A B → A .progress ≡ B .progress → Going (A .progress)
-      → Ended n s (endOf n (phaseTwo v t gamma n A)) (endOf n (phaseTwo v t gamma n B))
+      → BothAlike n s (endOf n (phaseTwo v t gamma n A)) (endOf n (phaseTwo v t gamma n B))
   complete s A B L same G =
-      subst (λ (r : Run). Ended n s (endOf n r) (endOf n (phaseTwo v t gamma n B))) (sym (stayed A (G .phase2)))
-      (subst (λ (r : Run). Ended n s (endOf n A) (endOf n r)) (sym (stayed B (sym (ap (λ (r : Progress). r .phase2) same) ∙ G .phase2)))
-      (both-alike same (λ r. record {
-        factors = ap (lowerTriangle n) (sym (moved-same n (L .positions .σ) (A .l) (B .l) (L .positions .fixes) (L .values .moved)));
-        amounts = same-amounts (L .positions) (L .values .same-e) (L .values .lengthE);
-        pivots = same-pivots (L .positions);
-      })))
+      subst (λ (r : Run). BothAlike n s (endOf n r) (endOf n (phaseTwo v t gamma n B))) (sym (stayed A (G .phase2)))
+      (subst (λ (r : Run). BothAlike n s (endOf n A) (endOf n r)) (sym (stayed B (sym (ap (λ (r : Progress). r .phase2) same) ∙ G .phase2)))
+      (record {
+        same = same;
+        completed = λ r. record {
+          factors = ap (lowerTriangle n) (sym (moved-same n (L .positions .σ) (A .l) (B .l) (L .positions .fixes) (L .values .moved)));
+          amounts = same-amounts (L .positions) (L .values .same-e) (L .values .lengthE);
+          pivots = same-pivots (L .positions);
+        };
+      }))
 
-  ends : (s : List ℕ) (s' : ℕ → ℕ) (A B : List Float) → Loaded n (order s) s' A B
-      → Ended n s (endOf n (phaseTwo v t gamma n (phaseOne v t gamma n (start n A)))) (endOf n (phaseTwo v t gamma n (phaseOne v t gamma n (start n B))))
-  ends s s' A B D = runs-end (steps v t gamma n) n s (Values n) Unit _ _ _ _ (finished A) (finished B) (complete s _ _) (phase-one-runs v t gamma n (order s) s' A B D)
+  -- a run with no second phase has the order of phase one
+  stayed-order : (a : List Float) → let r = phaseOne v t gamma n (start n a) in phaseTwo v t gamma n r .progress .phase2 ≡ Never → phaseTwo v t gamma n r .p ≡ r .p
+  stayed-order a e = let r = phaseOne v t gamma n (start n a) in ap (λ (q : Run). q .p) (stayed r (sym (finished a .phase2) ∙ e))
 
-pub se-ended : (v : Variant) (t : Tolerances) (n : ℕ) (s : List ℕ) (s' : ℕ → ℕ) (A B : List Float) → Loaded n (order s) s' A B → Ended n s (endOf n (run v t n A)) (endOf n (run v t n B))
-unfolding run
-se-ended v t n s s' A B D =
-    subst (λ (gamma : Float). Ended n s (endOf n (run v t n A)) (endOf n (phaseTwo v t gamma n (phaseOne v t gamma n (start n B))))) (gamma-same D)
-    (ends v t (diagonalMax n A) n s s' A B D)
+module _ (v : Variant) (t : Tolerances) (n : ℕ) (s : List ℕ) (s' : ℕ → ℕ) (A B : List Float) (D : Loaded n (order s) s' A B) where
+  -- the second run has the first one's gamma
+  abbrev gamma : Float
+  gamma = diagonalMax n A
+
+  second-run : phaseTwo v t gamma n (phaseOne v t gamma n (start n B)) ≡ run v t n B
+  unfolding run
+  second-run = ap (λ (x : Float). phaseTwo v t x n (phaseOne v t x n (start n B))) (gamma-same D)
+
+  pub se-ended : Ended n s (endOf n (run v t n A)) (endOf n (run v t n B))
+  unfolding run
+  se-ended = subst (λ (r : Run). Ended n s (endOf n (run v t n A)) (endOf n r)) second-run
+      (runs-end (steps v t gamma n) n s (Values n) Unit _ _ _ _ (finished v t gamma n A) (finished v t gamma n B) (complete v t gamma n s _ _) (phase-one-runs v t gamma n (order s) s' A B D))
+
+  -- s is the first run's order
+  pub se-own : run v t n A .p ≡ s → run v t n A .progress .phase2 ≡ Never → run v t n A .progress .refused ≡ Never → BothAlike n s (endOf n (run v t n A)) (endOf n (run v t n B))
+  unfolding run
+  se-own e p q = subst (λ (r : Run). BothAlike n s (endOf n (run v t n A)) (endOf n r)) second-run
+      (together-end (steps v t gamma n) n s (Values n) Unit _ _ _ _ (finished v t gamma n A) (finished v t gamma n B) (complete v t gamma n s _ _)
+      (phase-one-own v t gamma n (order s) s' A B D (λ i h. ap (λ (x : List ℕ). getD x i 0) (sym e ∙ stayed-order v t gamma n A p)) .together) p q)

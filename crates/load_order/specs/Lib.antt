@@ -1,1 +1,3 @@
 pub mod LoadOrder
+pub mod Calls
+pub mod OwnOrder

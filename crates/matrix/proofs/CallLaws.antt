@@ -27,7 +27,7 @@ swap-accepted n mat idx1 idx2 h =
     let m = both-accepted _ _ (i .0) in
     (record { len = matrix-accepted n (length mat) (m .1); small = size-accepted n (m .0) .1 }, (index-accepted n 0 idx1 (i .1), index-accepted n 1 idx2 (j .1)))
 
-some-accepted : (c : List Float) → Accepted (check-some c) → 0 < length c
+some-accepted : (c : List Float) → Accepted (check-some (length c)) → 0 < length c
 some-accepted c h = omega (arith, eqb-false (length c) 0 (refuse-complete (eqb (length c) 0) SizeOutOfRange refl (h .is)))
 
 pub search-accepted : (c : List Float) → Accepted (search-checks c) → 0 < length c
@@ -54,8 +54,8 @@ diagonal-accepted arr mat h = square-accepted (length arr) mat (check-finite 1 a
 -- ---- what the call answers: its checks o are run, and their outcome r asked whether it is complete
 module _ {o r : Outcome} {b : Bool} (runs : r ≡ o) (asks : b ≡ complete r) where
   -- a call that is lent one matrix has written it, or has left it as it was
-  pub matrix-written : (new old mat : List Float) → b ≡ true → mat ≡ new → record { outcome = r; mat = mat } ≡ matrixCall o new old
+  pub matrix-written : {A : Type 0} (new old mat : List A) → b ≡ true → mat ≡ new → record { outcome = r; mat = mat } ≡ matrixCall o new old
   matrix-written new old mat h e = rw (complete-accepted runs asks h .is, runs, e)
 
-  pub matrix-untouched : (new old : List Float) → b ≡ false → record { outcome = r; mat = old } ≡ matrixCall o new old
+  pub matrix-untouched : {A : Type 0} (new old : List A) → b ≡ false → record { outcome = r; mat = old } ≡ matrixCall o new old
   matrix-untouched new old h = rw (not-complete runs asks h, runs)

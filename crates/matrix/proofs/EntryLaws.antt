@@ -12,7 +12,7 @@ use Rattle.matrix.specs.Matrix.{at, put}
 use Rattle.matrix.proofs.CellLaws.{cell-lt}
 
 -- n rows of n entries
-abbrev pub Entries : ℕ → List Float → Type 0
+abbrev pub Entries : {A : Type 0} → ℕ → List A → Type 0
 Entries n m = length m ≡ n * n
 
 -- ---- a cell has one row and one column
@@ -36,13 +36,16 @@ pub at-put-other : (n : ℕ) (m : List Float) (i j k l : ℕ) (v : Float) → j 
 at-put-other n m i j k l v a b h = getD-set-other m (i * n + j) (k * n + l) v nan (λ e. h (cell-row n k l i j b a e) (cell-column n k l i j b a e))
 
 -- ---- matrices with the same entries are the same
-pub same-entries : (n : ℕ) (A B : List Float) → Entries n A → Entries n B → ((i j : ℕ) → i < n → j < n → at n A i j ≡ at n B i j) → A ≡ B
-same-entries n A B a b h = ext-getD nan A B (a ∙ sym b) (λ k l. cell k (omega arith))
+pub same-cells : {A : Type 0} (d : A) (n : ℕ) (l k : List A) → Entries n l → Entries n k → ((i j : ℕ) → i < n → j < n → getD l (i * n + j) d ≡ getD k (i * n + j) d) → l ≡ k
+same-cells d n l k a b h = ext-getD d l k (a ∙ sym b) (λ x q. cell x (omega arith))
   where
-    cell : (k : ℕ) → k < n * n → getD A k nan ≡ getD B k nan
-    cell k l = elim (ℕ-discrete n 0) [
-      | yes z ↦ absurd (omega (arith, ap (λ (x : ℕ). x * n) z))
+    cell : (x : ℕ) → x < n * n → getD l x d ≡ getD k x d
+    cell x q = elim (ℕ-discrete n 0) [
+      | yes z ↦ absurd (omega (arith, ap (λ (y : ℕ). y * n) z))
       | no z ↦
           let np : 0 < n = omega arith in
-          subst (λ (x : ℕ). getD A x nan ≡ getD B x nan) (div-add-mod' k n) (h (k / n) (k % n) (div-lt-iff-lt-mul np .1 l) (mod-lt k np))
+          subst (λ (y : ℕ). getD l y d ≡ getD k y d) (div-add-mod' x n) (h (x / n) (x % n) (div-lt-iff-lt-mul np .1 q) (mod-lt x np))
     ]
+
+pub same-entries : (n : ℕ) (A B : List Float) → Entries n A → Entries n B → ((i j : ℕ) → i < n → j < n → at n A i j ≡ at n B i j) → A ≡ B
+same-entries = same-cells nan

@@ -18,8 +18,8 @@ abbrev pub check-size : ℕ → Outcome
 check-size n = refuse (eqb n 0 || ltb 48 n) SizeOutOfRange
 
 -- 3: a search over nothing
-abbrev pub check-some : List Float → Outcome
-check-some c = refuse (eqb (length c) 0) SizeOutOfRange
+abbrev pub check-some : ℕ → Outcome
+check-some len = refuse (eqb len 0) SizeOutOfRange
 
 -- 4
 abbrev pub check-matrix : ℕ → ℕ → Outcome

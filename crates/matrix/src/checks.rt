@@ -24,10 +24,10 @@ pub fn check_size(n: usize) -> Outcome
     Outcome::Complete
 }
 
-pub fn check_some(c: &[f64]) -> Outcome
-    ensures { λ r. ⌜ r ≡ check-some (now (c .entry)) ⌝ }
+pub fn check_some(len: usize) -> Outcome
+    ensures { λ r. ⌜ r ≡ check-some len ⌝ }
 {
-    if c.len() == 0 {
+    if len == 0 {
         return Outcome::SizeOutOfRange;
     }
     Outcome::Complete

@@ -9,7 +9,7 @@ ghost use Rattle.matrix.specs.Swap.{swap, swap-rows, swap-columns};
 ghost use Rattle.matrix.specs.Search.{key, better, bestOf, countEqual, largest};
 ghost use Rattle.matrix.specs.Eigenvalues.{ordered, eigenvalues-2x2};
 ghost use Rattle.matrix.specs.Plain.{AllBelow, index-to-permutation-mat, diag-mat-from-arr};
-ghost use Rattle.matrix.specs.Calls.{swap-checks, checked-swap-rows, checked-swap-columns, search-checks, checked-search, check-eigen, eigen-checks, checked-eigenvalues-2x2, permutation-checks, checked-index-to-permutation-mat, diagonal-checks, checked-diag-mat-from-arr};
+ghost use Rattle.matrix.specs.Calls.{swap-checks, swap-rows-call, swap-columns-call, search-checks, search-call, check-eigen, eigen-checks, eigenvalues-2x2-call, permutation-checks, index-to-permutation-mat-call, diagonal-checks, diag-mat-from-arr-call};
 use crate::checks;
 use crate::entries::cell;
 use crate::entries::clear;
@@ -17,7 +17,7 @@ use crate::entries::put;
 use arithmetic::double::abs;
 use arithmetic::double::finite;
 use arithmetic::outcome::Outcome;
-use arithmetic::sqrt::sqrt;
+use arithmetic::sqrt::sqrt_unchecked;
 
 // ---- swaps
 
@@ -30,20 +30,20 @@ pub fn swap(l: &mut [f64], x: usize, y: usize)
     l[y] = t;
 }
 
-pub fn swap_rows(mat: &mut [f64], n: usize, idx1: usize, idx2: usize)
+pub fn swap_rows_unchecked(mat: &mut [f64], n: usize, idx1: usize, idx2: usize)
     requires { ⌜ Square n (now mat) ⌝ }
     requires { ⌜ (idx1 < n) × (idx2 < n) ⌝ }
-    ensures { λ _. ⌜ now (mat .exit) ≡ swap-rows n (now (mat .entry)) idx1 idx2 ⌝ }
+    ensures { λ _. ⌜ now (mat .exit) ≡ swap-rows nan n (now (mat .entry)) idx1 idx2 ⌝ }
 {
     for i in 0..n {
         swap(mat, cell(n, idx1, i), cell(n, idx2, i));
     }
 }
 
-pub fn swap_columns(mat: &mut [f64], n: usize, idx1: usize, idx2: usize)
+pub fn swap_columns_unchecked(mat: &mut [f64], n: usize, idx1: usize, idx2: usize)
     requires { ⌜ Square n (now mat) ⌝ }
     requires { ⌜ (idx1 < n) × (idx2 < n) ⌝ }
-    ensures { λ _. ⌜ now (mat .exit) ≡ swap-columns n (now (mat .entry)) idx1 idx2 ⌝ }
+    ensures { λ _. ⌜ now (mat .exit) ≡ swap-columns nan n (now (mat .entry)) idx1 idx2 ⌝ }
 {
     for i in 0..n {
         swap(mat, cell(n, i, idx1), cell(n, i, idx2));
@@ -59,22 +59,22 @@ fn swap_checks(n: usize, len: usize, idx1: usize, idx2: usize) -> Outcome
         .then(checks::check_index(n, 1, idx2))
 }
 
-pub fn checked_swap_rows(mat: &mut [f64], n: usize, idx1: usize, idx2: usize) -> Outcome
-    ensures { λ r. ⌜ record { outcome = r; mat = now (mat .exit) } ≡ checked-swap-rows n (now (mat .entry)) idx1 idx2 ⌝ }
+pub fn swap_rows(mat: &mut [f64], n: usize, idx1: usize, idx2: usize) -> Outcome
+    ensures { λ r. ⌜ record { outcome = r; mat = now (mat .exit) } ≡ swap-rows-call n (now (mat .entry)) idx1 idx2 ⌝ }
 {
     let outcome = swap_checks(n, mat.len(), idx1, idx2);
     if outcome.complete() {
-        swap_rows(mat, n, idx1, idx2);
+        swap_rows_unchecked(mat, n, idx1, idx2);
     }
     outcome
 }
 
-pub fn checked_swap_columns(mat: &mut [f64], n: usize, idx1: usize, idx2: usize) -> Outcome
-    ensures { λ r. ⌜ record { outcome = r; mat = now (mat .exit) } ≡ checked-swap-columns n (now (mat .entry)) idx1 idx2 ⌝ }
+pub fn swap_columns(mat: &mut [f64], n: usize, idx1: usize, idx2: usize) -> Outcome
+    ensures { λ r. ⌜ record { outcome = r; mat = now (mat .exit) } ≡ swap-columns-call n (now (mat .entry)) idx1 idx2 ⌝ }
 {
     let outcome = swap_checks(n, mat.len(), idx1, idx2);
     if outcome.complete() {
-        swap_columns(mat, n, idx1, idx2);
+        swap_columns_unchecked(mat, n, idx1, idx2);
     }
     outcome
 }
@@ -93,13 +93,13 @@ pub struct Found {
     pub tied: bool,
 }
 
-fn key(magnitude: bool, x: f64) -> f64
+pub fn key(magnitude: bool, x: f64) -> f64
     ensures { λ r. ⌜ r ≡ key magnitude x ⌝ }
 {
     if magnitude { abs(x) } else { x }
 }
 
-fn better(s: Best, x: f64, i: usize) -> Best
+pub fn better(s: Best, x: f64, i: usize) -> Best
     ensures { λ r. ⌜ r ≡ better s x i ⌝ }
 {
     if x > s.max {
@@ -165,11 +165,11 @@ pub struct SearchAnswer {
 fn search_checks(c: &[f64]) -> Outcome
     ensures { λ r. ⌜ r ≡ search-checks (now (c .entry)) ⌝ }
 {
-    checks::check_some(c).then(checks::check_finite(1, c))
+    checks::check_some(c.len()).then(checks::check_finite(1, c))
 }
 
-fn checked_search(magnitude: bool, c: &[f64]) -> SearchAnswer
-    ensures { λ r. ⌜ r ≡ checked-search magnitude (now (c .entry)) ⌝ }
+fn search(magnitude: bool, c: &[f64]) -> SearchAnswer
+    ensures { λ r. ⌜ r ≡ search-call magnitude (now (c .entry)) ⌝ }
 {
     let outcome = search_checks(c);
     if outcome.complete() {
@@ -182,16 +182,16 @@ fn checked_search(magnitude: bool, c: &[f64]) -> SearchAnswer
     SearchAnswer { outcome, index: 0 }
 }
 
-pub fn checked_index_of_largest(c: &[f64]) -> SearchAnswer
-    ensures { λ r. ⌜ r ≡ checked-search Bool.false (now (c .entry)) ⌝ }
+pub fn index_of_largest(c: &[f64]) -> SearchAnswer
+    ensures { λ r. ⌜ r ≡ search-call Bool.false (now (c .entry)) ⌝ }
 {
-    checked_search(false, c)
+    search(false, c)
 }
 
-pub fn checked_index_of_largest_abs(c: &[f64]) -> SearchAnswer
-    ensures { λ r. ⌜ r ≡ checked-search Bool.true (now (c .entry)) ⌝ }
+pub fn index_of_largest_abs(c: &[f64]) -> SearchAnswer
+    ensures { λ r. ⌜ r ≡ search-call Bool.true (now (c .entry)) ⌝ }
 {
-    checked_search(true, c)
+    search(true, c)
 }
 
 // ---- eigenvalues
@@ -212,7 +212,7 @@ fn ordered(l1: f64, l2: f64) -> Eigen
     }
 }
 
-pub fn eigenvalues_2x2(mat: [[f64; 2]; 2]) -> Eigen
+pub fn eigenvalues_2x2_unchecked(mat: [[f64; 2]; 2]) -> Eigen
     ensures { λ r. ⌜ r ≡ eigenvalues-2x2 mat ⌝ }
 {
     let a = mat[0][0];
@@ -220,7 +220,7 @@ pub fn eigenvalues_2x2(mat: [[f64; 2]; 2]) -> Eigen
     let c = mat[1][0];
     let d = mat[1][1];
     let h = -(a + d) / 2.0;
-    let tmp = sqrt(h * h - a * d + b * c);
+    let tmp = sqrt_unchecked(h * h - a * d + b * c);
     let l1 = (a + d) / 2.0 + tmp;
     let l2 = (a + d) / 2.0 - tmp;
     ordered(l1, l2)
@@ -251,10 +251,10 @@ fn eigen_checks(mat: [[f64; 2]; 2], e: Eigen) -> Outcome
     checks::check_finite(2, &entries).then(check_eigen(e))
 }
 
-pub fn checked_eigenvalues_2x2(mat: [[f64; 2]; 2]) -> EigenAnswer
-    ensures { λ r. ⌜ r ≡ checked-eigenvalues-2x2 mat ⌝ }
+pub fn eigenvalues_2x2(mat: [[f64; 2]; 2]) -> EigenAnswer
+    ensures { λ r. ⌜ r ≡ eigenvalues-2x2-call mat ⌝ }
 {
-    let eigen = eigenvalues_2x2(mat);
+    let eigen = eigenvalues_2x2_unchecked(mat);
     let outcome = eigen_checks(mat, eigen);
     if outcome.complete() {
         return EigenAnswer { outcome, eigen };
@@ -267,7 +267,7 @@ pub fn checked_eigenvalues_2x2(mat: [[f64; 2]; 2]) -> EigenAnswer
 
 // ---- permutation and diagonal matrices
 
-pub fn index_to_permutation_mat(idxs: &[usize], mat: &mut [f64])
+pub fn index_to_permutation_mat_unchecked(idxs: &[usize], mat: &mut [f64])
     requires { ⌜ Square (length (now idxs)) (now mat) ⌝ }
     requires { ⌜ AllBelow (length (now idxs)) (now idxs) ⌝ }
     ensures { λ _. ⌜ now (mat .exit) ≡ index-to-permutation-mat (now (idxs .entry)) ⌝ }
@@ -288,17 +288,17 @@ fn permutation_checks(idxs: &[usize], len: usize) -> Outcome
         .then(checks::check_indices(n, idxs))
 }
 
-pub fn checked_index_to_permutation_mat(idxs: &[usize], mat: &mut [f64]) -> Outcome
-    ensures { λ r. ⌜ record { outcome = r; mat = now (mat .exit) } ≡ checked-index-to-permutation-mat (now (idxs .entry)) (now (mat .entry)) ⌝ }
+pub fn index_to_permutation_mat(idxs: &[usize], mat: &mut [f64]) -> Outcome
+    ensures { λ r. ⌜ record { outcome = r; mat = now (mat .exit) } ≡ index-to-permutation-mat-call (now (idxs .entry)) (now (mat .entry)) ⌝ }
 {
     let outcome = permutation_checks(idxs, mat.len());
     if outcome.complete() {
-        index_to_permutation_mat(idxs, mat);
+        index_to_permutation_mat_unchecked(idxs, mat);
     }
     outcome
 }
 
-pub fn diag_mat_from_arr(arr: &[f64], mat: &mut [f64])
+pub fn diag_mat_from_arr_unchecked(arr: &[f64], mat: &mut [f64])
     requires { ⌜ Square (length (now arr)) (now mat) ⌝ }
     ensures { λ _. ⌜ now (mat .exit) ≡ diag-mat-from-arr (now (arr .entry)) ⌝ }
 {
@@ -318,12 +318,12 @@ fn diagonal_checks(arr: &[f64], len: usize) -> Outcome
         .then(checks::check_finite(1, arr))
 }
 
-pub fn checked_diag_mat_from_arr(arr: &[f64], mat: &mut [f64]) -> Outcome
-    ensures { λ r. ⌜ record { outcome = r; mat = now (mat .exit) } ≡ checked-diag-mat-from-arr (now (arr .entry)) (now (mat .entry)) ⌝ }
+pub fn diag_mat_from_arr(arr: &[f64], mat: &mut [f64]) -> Outcome
+    ensures { λ r. ⌜ record { outcome = r; mat = now (mat .exit) } ≡ diag-mat-from-arr-call (now (arr .entry)) (now (mat .entry)) ⌝ }
 {
     let outcome = diagonal_checks(arr, mat.len());
     if outcome.complete() {
-        diag_mat_from_arr(arr, mat);
+        diag_mat_from_arr_unchecked(arr, mat);
     }
     outcome
 }

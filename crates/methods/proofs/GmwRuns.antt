@@ -15,7 +15,7 @@ use Rattle.methods.specs.Progress.{stopped}
 use Rattle.methods.specs.Statements.{pivotMatrix}
 use Rattle.methods.specs.Gmw81.{Run, start, divideRow, updateDiagonal, c₂Of, djOf, storedFinite, stepAt, step, finish, run, stepped}
 use Rattle.methods.specs.declared.decomposition.Mark.the-variants.{Never}
-use Rattle.methods.proofs.GmwLaws.{started-is, step-at-is, step-stays, step-goes, finish-stays}
+use Rattle.methods.proofs.GmwLaws.{started-is, step-at-is, step-stays, step-goes, finish-stays, finish-order}
 use Rattle.methods.proofs.Pivots.{diagonal-below, Permuted, identity-permuted, pivot-permuted}
 use Rattle.methods.proofs.Refused.{NotRefused, goes-on, unmarked-never}
 
@@ -71,6 +71,9 @@ step-never n delta beta j k tie s e = goes-on (s .progress .refused) (stepTest n
 pub run-is : (n : ℕ) (a : List Float) → run n a ≡ finish n (stepped n a)
 unfolding run
 run-is n a = refl
+
+pub run-permuted : (n : ℕ) (a : List Float) → Permuted n (run n a .p)
+run-permuted n a = rw (run-is n a, finish-order n (stepped n a)) (steps-permuted n _ _ a)
 
 pub finish-never : (n : ℕ) (s : Run) → finish n s .progress .refused ≡ Never → s .progress .refused ≡ Never
 finish-never n s = go (is (marked (s .progress .refused)))

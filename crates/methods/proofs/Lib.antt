@@ -29,3 +29,4 @@ pub mod Answers
 pub mod SeLaws
 pub mod Stopped
 pub mod SeRuns
+pub mod AcceptedCalls

@@ -7,7 +7,7 @@ use native.Mathlib.Decide.{ℕ-discrete}
 use native.Mathlib.Omega.{arith}
 use lib.ListN.{length, getD}
 use borrow.Author.Tests.{eq-eqb, ne-eqb}
-use lib.Ieee.{Float}
+use lib.Ieee.{Float, nan}
 use lib.Ieee.Scale.{finite}
 use Rattle.arithmetic.specs.All.{all}
 use Rattle.arithmetic.proofs.AllLaws.{all-each, all-true}
@@ -33,7 +33,7 @@ pub pivot-entries : (n j k : ℕ) (m : List Float) → Entries n m → j < n →
 unfolding pivotMatrix
 pivot-entries n j k m h pj pk = elim (ℕ-discrete k 0) [
   | yes e ↦ rw (eq-eqb k 0 e) h
-  | no e ↦ rw (ne-eqb k 0 e) (swap-both-entries n m j (j + k) h pj pk)
+  | no e ↦ rw (ne-eqb k 0 e) (swap-both-entries nan n m j (j + k) h pj pk)
 ]
 
 pub pivot-at : (n j k : ℕ) (m : List Float) → Entries n m → j < n → j + k < n → (r c : ℕ) → r < n → c < n
@@ -43,7 +43,7 @@ pivot-at n j k m h pj pk r c pr pc = elim (ℕ-discrete k 0) [
   | yes e ↦
       let z : j + k ≡ j = omega arith in
       rw (eq-eqb k 0 e) (sym (rw (z, transpose-self j r, transpose-self j c)))
-  | no e ↦ rw (ne-eqb k 0 e) (swap-both-at n m j (j + k) h pj pk r c pr pc)
+  | no e ↦ rw (ne-eqb k 0 e) (swap-both-at nan n m j (j + k) h pj pk r c pr pc)
 ]
 
 pub pivot-symmetric : (n j k : ℕ) (m : List Float) → Entries n m → j < n → j + k < n → ((x y : ℕ) → x < n → y < n → at n m x y ≡ at n m y x)

@@ -6,8 +6,9 @@ use native.Mathlib.Omega.{arith}
 use native.Mathlib.Nat.{le-trans, lt-of-lt-of-le, lt-of-le-of-lt, le-of-eq, mul-le-mul, mul-le-mul-right, mul-lt-mul-of-pos-right, lt-of-mul-lt-mul-right, mul-assoc, mul-comm, mul-left-comm, add-mul, pow-suc}
 use lib.Dec.{lit<}
 use lib.Pow.{pow-pos, pow-mono, pow-add}
-use lib.Ieee.{ofBits}
+use lib.Ieee.{Float, ofBits, fits, lt}
 use Rattle.arithmetic.specs.Sqrt.{magnitude}
+use Rattle.arithmetic.specs.Nearest.{NotNegative}
 use Rattle.arithmetic.proofs.Nearest.{held-by}
 use Rattle.methods.specs.Factor.{tau, mu}
 use Rattle.methods.specs.Constants.{NearerCube, NearestCubeRoot, NearerTenth, NearestTenth}
@@ -71,12 +72,19 @@ tau-magnitude : magnitude tau ≡ 7149018786131517 * 2 ^ 1004
 unfolding magnitude ofBits
 tau-magnitude = refl
 
+tau-not-negative : NotNegative tau
+unfolding ofBits fits lt
+tau-not-negative = record { double = tt; number = refl; sign = refl }
+
 pub tau-nearest : NearestCubeRoot tau
-tau-nearest y h =
-    let k = held-by y h in
-    subst (λ (v : ℕ). NearerCube (2 ^ 3170) v (magnitude y)) (sym tau-magnitude)
-    (subst (λ (w : ℕ). NearerCube (2 ^ 3170) (7149018786131517 * 2 ^ 1004) w) (k .3)
-    (nearer-cube 7149018786131517 1004 (2 ^ 3170) (lit< tt) (lit< tt) (lit< tt) (lit< tt) (k .0) (k .1) (k .2)))
+tau-nearest = record { result = tau-not-negative; nearest = nearest }
+  where
+    nearest : (y : Float) → NotNegative y → NearerCube (2 ^ 3170) (magnitude tau) (magnitude y)
+    nearest y h =
+        let k = held-by y h in
+        subst (λ (v : ℕ). NearerCube (2 ^ 3170) v (magnitude y)) (sym tau-magnitude)
+        (subst (λ (w : ℕ). NearerCube (2 ^ 3170) (7149018786131517 * 2 ^ 1004) w) (k .3)
+        (nearer-cube 7149018786131517 1004 (2 ^ 3170) (lit< tt) (lit< tt) (lit< tt) (lit< tt) (k .0) (k .1) (k .2)))
 
 -- ---- a tenth
 module _ (m e n : ℕ) (over : 2 * n < 10 * ((2 * m + 1) * 2 ^ e)) (under : 10 * ((2 * m - 1) * 2 ^ e) < 2 * n) (low : 2 ^ 52 < m) (high : m < 2 ^ 53) where
@@ -93,9 +101,16 @@ mu-magnitude : magnitude mu ≡ 7205759403792794 * 2 ^ 1018
 unfolding magnitude ofBits
 mu-magnitude = refl
 
+mu-not-negative : NotNegative mu
+unfolding ofBits fits lt
+mu-not-negative = record { double = tt; number = refl; sign = refl }
+
 pub mu-nearest : NearestTenth mu
-mu-nearest y h =
-    let k = held-by y h in
-    subst (λ (v : ℕ). NearerTenth (2 ^ 1074) v (magnitude y)) (sym mu-magnitude)
-    (subst (λ (w : ℕ). NearerTenth (2 ^ 1074) (7205759403792794 * 2 ^ 1018) w) (k .3)
-    (nearer-tenth 7205759403792794 1018 (2 ^ 1074) (lit< tt) (lit< tt) (lit< tt) (lit< tt) (k .0) (k .1) (k .2)))
+mu-nearest = record { result = mu-not-negative; nearest = nearest }
+  where
+    nearest : (y : Float) → NotNegative y → NearerTenth (2 ^ 1074) (magnitude mu) (magnitude y)
+    nearest y h =
+        let k = held-by y h in
+        subst (λ (v : ℕ). NearerTenth (2 ^ 1074) v (magnitude y)) (sym mu-magnitude)
+        (subst (λ (w : ℕ). NearerTenth (2 ^ 1074) (7205759403792794 * 2 ^ 1018) w) (k .3)
+        (nearer-tenth 7205759403792794 1018 (2 ^ 1074) (lit< tt) (lit< tt) (lit< tt) (lit< tt) (k .0) (k .1) (k .2)))

@@ -1,13 +1,14 @@
 -- The tests of phase one come out alike along moved positions.
 use mathlib.Core.Path.{_≡_, refl, ap, ap₂, _∙_}
 use mathlib.Core.List.{List}
-use mathlib.Core.Bool.{true, _||_}
-use Prim.Native.Nat.{ℕ, _+_, _<_}
+use mathlib.Core.Bool.{true, false, _||_}
+use Prim.Native.Nat.{ℕ, _+_, _≤_, _<_}
 use native.Mathlib.Omega.{arith}
 use lib.Dec.{T}
-use lib.Ieee.{Float, binary64, lt, neg, fits}
+use lib.Ieee.{Float, nan, inf, fin, binary64, lt, neg, fits}
 use lib.Ieee.Scale.{finite}
 use Rattle.arithmetic.specs.Double.{_⊖_, _⊗_, _⊘_, square}
+use Rattle.arithmetic.proofs.LoopLaws.{range-none}
 use Rattle.arithmetic.proofs.Folds.{smallest, greatest}
 use Rattle.matrix.specs.Matrix.{at}
 use Rattle.matrix.proofs.Bijection.{Bijection, Fixes, bijection-from, Along}
@@ -34,6 +35,23 @@ pub leavesAfter-along : (v : Variant) (t : Tolerances) (gamma : Float) (n j : �
 unfolding leavesAfter
 leavesAfter-along Se90 t gamma n j σ τ A B pj P f M s = tmp-along n j σ τ A B (t .tau ⊗ gamma) pj P f M s
 leavesAfter-along Se99 t gamma n j σ τ A B pj P f M s = tmp-along n j σ τ A B (neg (t .mu) ⊗ gamma) pj P f M s
+
+-- the last step stays in phase one: nothing is folded, and infinity is below nothing
+infinity-top : (x : Float) → lt (inf false) x ≡ false
+unfolding lt
+infinity-top nan = refl
+infinity-top (inf true) = refl
+infinity-top (inf false) = refl
+infinity-top (fin s m e) = refl
+
+nothing-folded : (n j : ℕ) (l : List Float) (x : Float) → n ≤ j + 1 → lt (tmpOf n j l) x ≡ false
+unfolding tmpOf
+nothing-folded n j l x h = ap (λ (y : Float). lt y x) (range-none (j + 1) n (foldNext n j l) (inf false) h) ∙ infinity-top x
+
+pub last-stays : (v : Variant) (t : Tolerances) (gamma : Float) (n j : ℕ) (l : List Float) → n ≤ j + 1 → leavesAfter v t gamma n j l ≡ false
+unfolding leavesAfter
+last-stays Se90 t gamma n j l h = nothing-folded n j l (t .tau ⊗ gamma) h
+last-stays Se99 t gamma n j l h = nothing-folded n j l (neg (t .mu) ⊗ gamma) h
 
 -- before the pivot: 0 to j - 1 are fixed
 pub leavesBefore-along : (v : Variant) (t : Tolerances) (gamma : Float) (n j : ℕ) (σ τ : ℕ → ℕ) (A B : List Float) → j < n → Bijection 0 n σ τ → Fixes n j σ → Moved n σ A B

@@ -15,6 +15,8 @@ use Rattle.matrix.specs.Search.{largest}
 use Rattle.matrix.specs.declared.utils.Found.{Found}
 use Rattle.matrix.proofs.SearchLaws.{largest-top}
 use Rattle.matrix.proofs.SwapLaws.{transpose, transpose-lt, transpose-twice}
+use Rattle.matrix.proofs.Bijection.{injective}
+use Rattle.methods.specs.Reloading.{LoadOrder}
 use Rattle.methods.specs.Result.{identity}
 use Rattle.methods.specs.Statements.{diagonal, pick, pivotList}
 use Rattle.methods.proofs.Moved.{length-pivot, getD-pivot}
@@ -49,6 +51,14 @@ pub record Permuted (n : ℕ) (p : List ℕ) : Type 0 where
 
 pub permuted-below : (n : ℕ) (p : List ℕ) → Permuted n p → AllBelow n p
 permuted-below n p P k h = P .order .to-high k (omega arith) (omega (arith, P .len))
+
+-- .. so it is a load order
+pub permuted-order : (n : ℕ) (p : List ℕ) → Permuted n p → LoadOrder n p
+permuted-order n p P = record {
+  len = P .len;
+  below = λ i h. P .order .to-high i (omega arith) h;
+  once = λ i k h l e. injective (P .order) i k (omega arith) h (omega arith) l e;
+}
 
 -- in order
 identity-permutes : (n : ℕ) → Order n (table n (λ i. i)) (λ i. i)

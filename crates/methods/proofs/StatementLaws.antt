@@ -3,17 +3,17 @@ use mathlib.Core.Path.{_≡_, sym, ap, _∙_}
 use mathlib.Core.List.{List}
 use Prim.Native.Nat.{ℕ, _+_}
 use borrow.Author.Tests.{eq-eqb, ne-eqb}
-use lib.Ieee.{Float}
+use lib.Ieee.{Float, nan}
 use Rattle.matrix.specs.Swap.{swap, swap-rows, swap-columns}
 use Rattle.methods.specs.Statements.{pivotMatrix, pivotList}
 
 -- ---- pivots
-swapped : (n j k : ℕ) (m : List Float) → (k ≡ 0 → ⊥) → pivotMatrix n j k m ≡ swap-columns n (swap-rows n m j (j + k)) j (j + k)
+swapped : (n j k : ℕ) (m : List Float) → (k ≡ 0 → ⊥) → pivotMatrix n j k m ≡ swap-columns nan n (swap-rows nan n m j (j + k)) j (j + k)
 unfolding pivotMatrix
 swapped n j k m h = rw (ne-eqb k 0 h)
 
-pub matrix-pivoted : (n j k : ℕ) (m m₁ m₂ : List Float) → (k ≡ 0 → ⊥) → m₁ ≡ swap-rows n m j (j + k) → m₂ ≡ swap-columns n m₁ j (j + k) → m₂ ≡ pivotMatrix n j k m
-matrix-pivoted n j k m m₁ m₂ h e g = g ∙ ap (λ (l : List Float). swap-columns n l j (j + k)) e ∙ sym (swapped n j k m h)
+pub matrix-pivoted : (n j k : ℕ) (m m₁ m₂ : List Float) → (k ≡ 0 → ⊥) → m₁ ≡ swap-rows nan n m j (j + k) → m₂ ≡ swap-columns nan n m₁ j (j + k) → m₂ ≡ pivotMatrix n j k m
+matrix-pivoted n j k m m₁ m₂ h e g = g ∙ ap (λ (l : List Float). swap-columns nan n l j (j + k)) e ∙ sym (swapped n j k m h)
 
 pub matrix-kept : (n j k : ℕ) (m : List Float) → k ≡ 0 → m ≡ pivotMatrix n j k m
 unfolding pivotMatrix

@@ -10,8 +10,9 @@ pub record NearerCube (n v y : ℕ) : Type 0 where
   pub above : y < v → (v + y) * (v + y) * (v + y) < 8 * n
 
 -- 2^-52 is 2^3170 cubed units: x is the double nearest the real cube root of 2^-52
-abbrev pub NearestCubeRoot : Float → Type 0
-NearestCubeRoot x = (y : Float) → NotNegative y → NearerCube (2 ^ 3170) (magnitude x) (magnitude y)
+pub record NearestCubeRoot (x : Float) : Type 0 where
+  pub result : NotNegative x
+  pub nearest : (y : Float) → NotNegative y → NearerCube (2 ^ 3170) (magnitude x) (magnitude y)
 
 -- A tenth of n is nearer to v than to y: 2 * n lies on v's side of 10 * (v + y), never on it.
 pub record NearerTenth (n v y : ℕ) : Type 0 where
@@ -19,5 +20,6 @@ pub record NearerTenth (n v y : ℕ) : Type 0 where
   pub above : y < v → 10 * (v + y) < 2 * n
 
 -- 1 is 2^1074 units: x is the double nearest 0.1
-abbrev pub NearestTenth : Float → Type 0
-NearestTenth x = (y : Float) → NotNegative y → NearerTenth (2 ^ 1074) (magnitude x) (magnitude y)
+pub record NearestTenth (x : Float) : Type 0 where
+  pub result : NotNegative x
+  pub nearest : (y : Float) → NotNegative y → NearerTenth (2 ^ 1074) (magnitude x) (magnitude y)

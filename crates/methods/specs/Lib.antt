@@ -10,3 +10,4 @@ pub mod Se
 pub mod Factor
 pub mod Constants
 pub mod Calls
+pub mod Accepted

@@ -47,7 +47,7 @@ pick magnitude values j = largest magnitude (drop j values)
 -- swap_rows(m, j, j + max_idx); swap_columns(m, j, j + max_idx);
 unfoldable pub pivotMatrix : ℕ → ℕ → ℕ → List Float → List Float
 unfolding swap-rows swap-columns
-pivotMatrix n j max-idx m = cond (eqb max-idx 0) m (swap-columns n (swap-rows n m j (j + max-idx)) j (j + max-idx))
+pivotMatrix n j max-idx m = cond (eqb max-idx 0) m (swap-columns nan n (swap-rows nan n m j (j + max-idx)) j (j + max-idx))
 
 -- p.swap(j, j + max_idx), and g.swap(j, j + max_idx)
 unfoldable pub pivotList : {A : Type 0} → A → ℕ → ℕ → List A → List A

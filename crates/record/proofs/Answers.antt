@@ -22,9 +22,12 @@ use Rattle.methods.specs.declared.method.Method.the-variants.{Gmw81, Se}
 use Rattle.methods.specs.declared.schnabel_eskow.Tolerances.{Tolerances}
 use Rattle.methods.specs.declared.decomposition.Mark.{Mark}
 use Rattle.methods.specs.declared.decomposition.Mark.the-variants.{Never, Step}
+use Rattle.record.specs.AnswerRecord.{longestAnswer}
 use Rattle.record.specs.MatrixRecord.{request, entriesOf, matrixOf, byte-checks, record-checks}
 use Rattle.record.specs.Record.{refused, resultOf, resultTo}
-use Rattle.record.proofs.Early.{checks-early}
+use Rattle.arithmetic.proofs.Cases.{is, holds, fails}
+use Rattle.record.proofs.Accepted.{room-accepted}
+use Rattle.record.proofs.Early.{bytes-parts, checks-early}
 
 -- a chain ends with its first refusal
 stops : (o rest : Outcome) → complete o ≡ false → (o then rest) ≡ o
@@ -32,25 +35,36 @@ unfolding _then_
 stops o rest h = rw h
 
 module _ (b : List ℕ) where
-  pub answer-complete : complete (record-checks b) ≡ true → resultOf b ≡ factor (methodOf (request b .method)) tolerances (request b .size) (matrixOf b)
+  pub answer-complete : complete (record-checks b longestAnswer) ≡ true → resultOf b ≡ factor (methodOf (request b .method)) tolerances (request b .size) (matrixOf b)
   unfolding resultOf
   answer-complete h = rw h
 
-  pub answer-refused : complete (record-checks b) ≡ false → resultOf b ≡ refused (record-checks b)
+  pub answer-refused : complete (record-checks b longestAnswer) ≡ false → resultOf b ≡ refused (record-checks b longestAnswer)
   unfolding resultOf
   answer-refused h = rw h
 
-  pub refused-outcome : complete (record-checks b) ≡ false → resultOf b .decomposition .outcome ≡ record-checks b
+  pub refused-outcome : complete (record-checks b longestAnswer) ≡ false → resultOf b .decomposition .outcome ≡ record-checks b longestAnswer
   refused-outcome h = rw (answer-refused h)
 
   -- where the checks on bytes pass, check 8 and the run are left
-  pub answer-request : complete (byte-checks b) ≡ true → resultOf b ≡ resultTo (request b) (entriesOf b)
+  pub answer-request : complete (byte-checks b longestAnswer) ≡ true → resultOf b ≡ resultTo (request b) (entriesOf b)
   unfolding resultOf resultTo
   answer-request h = rw (← goes-on (record { is = h }) refl)
 
-  pub bytes-refused : complete (byte-checks b) ≡ false → resultOf b ≡ refused (byte-checks b)
+  pub bytes-refused : complete (byte-checks b longestAnswer) ≡ false → resultOf b ≡ refused (byte-checks b longestAnswer)
   unfolding record-checks
-  bytes-refused h = let e : record-checks b ≡ byte-checks b = stops (byte-checks b) _ h in answer-refused (rw e h) ∙ ap refused e
+  bytes-refused h = let e : record-checks b longestAnswer ≡ byte-checks b longestAnswer = stops (byte-checks b longestAnswer) _ h in answer-refused (rw e h) ∙ ap refused e
+
+-- a buffer of another length is refused, by check 5 or an earlier one
+pub other-room : (b : List ℕ) (room : ℕ) → (room ≡ longestAnswer → ⊥) → complete (byte-checks b room) ≡ false
+other-room b room h = elim (is (complete (byte-checks b room))) [
+  | holds c ↦ absurd (h (room-accepted (request b) room (entriesOf b) (bytes-parts b room (record { is = c }))))
+  | fails c ↦ c
+]
+
+pub other-checks : (b : List ℕ) (room : ℕ) → (room ≡ longestAnswer → ⊥) → record-checks b room ≡ byte-checks b room
+unfolding record-checks
+other-checks b room h = stops (byte-checks b room) _ (other-room b room h)
 
 -- ---- their numbers: 0 or 9 where the checks accept, 1 to 8 where they refuse
 outcome-number : (refused : Mark) → (number (outcomeOf refused) ≡ 0) ⊎ (number (outcomeOf refused) ≡ 9)
@@ -64,8 +78,8 @@ factor-number Gmw81 t n a = outcome-number (gmw.run n a .progress .refused)
 factor-number (Se v) t n a = outcome-number (schnabel.run v t n a .progress .refused)
 
 module _ (b : List ℕ) where
-  pub accepted-number : complete (record-checks b) ≡ true → let o = resultOf b .decomposition .outcome in (number o ≡ 0) ⊎ (number o ≡ 9)
+  pub accepted-number : complete (record-checks b longestAnswer) ≡ true → let o = resultOf b .decomposition .outcome in (number o ≡ 0) ⊎ (number o ≡ 9)
   accepted-number h = rw (answer-complete b h) (factor-number (methodOf (request b .method)) tolerances (request b .size) (matrixOf b))
 
-  pub refused-number : complete (record-checks b) ≡ false → let o = resultOf b .decomposition .outcome in (1 ≤ number o) × (number o ≤ 8)
-  refused-number h = rw (refused-outcome b h) (omega (arith, eqb-false (number (record-checks b)) 0 h), checks-early b .number-is)
+  pub refused-number : complete (record-checks b longestAnswer) ≡ false → let o = resultOf b .decomposition .outcome in (1 ≤ number o) × (number o ≤ 8)
+  refused-number h = rw (refused-outcome b h) (omega (arith, eqb-false (number (record-checks b longestAnswer)) 0 h), checks-early b longestAnswer .number-is)

@@ -10,13 +10,15 @@ use lib.ListN.{length}
 use lib.Dec.{T, eqb, leb, ltb, leb→le}
 use Rattle.arithmetic.specs.Outcome.{number, place, refuse, _then_}
 use Rattle.arithmetic.specs.declared.outcome.Outcome.{Outcome}
-use Rattle.arithmetic.specs.declared.outcome.Outcome.the-variants.{MalformedRecord, UnknownMethod, SizeOutOfRange, MatrixLength, NotFinite, Unsymmetric}
-use Rattle.matrix.specs.Checks.{check-size, check-finite, check-symmetric, firstNotFinite, firstUnsymmetric}
+use Rattle.arithmetic.specs.declared.outcome.Outcome.the-variants.{MalformedRecord, UnknownMethod, SizeOutOfRange, MatrixLength, BufferLength, NotFinite, Unsymmetric}
+use Rattle.matrix.specs.Checks.{check-size, check-buffer, check-finite, check-symmetric, firstNotFinite, firstUnsymmetric}
 use Rattle.matrix.proofs.CheckLaws.{Accepted, both-accepted, then-keeps, refuse-keeps}
 use Rattle.methods.specs.Calls.{check-method}
-use Rattle.record.specs.Bytes.{doubles}
+use Rattle.encoding.specs.Bytes.{doubles}
+use Rattle.record.specs.AnswerRecord.{longestAnswer}
 use Rattle.record.specs.Cursor.{walk}
-use Rattle.record.specs.MatrixRecord.{request, entriesOf, longestRecord, exact, check-record, check-entries, request-checks, byte-checks, record-checks}
+use Rattle.encoding.specs.Checks.{check-entries}
+use Rattle.record.specs.MatrixRecord.{request, entriesOf, longestRecord, exact, check-record, request-checks, byte-checks, record-checks}
 use Rattle.record.specs.Writing.{PlaceFits}
 use Rattle.record.specs.declared.cursor.Cursor.{Cursor}
 use Rattle.record.specs.declared.read.Request.{Request}
@@ -44,7 +46,7 @@ fields-early len c =
     (λ _. walk-keeps Early (record { number-is = omega arith; placed = zeros }) (record { number-is = omega arith; placed = zeros }) (c .stage)))
     (λ _. refuse-early (not (exact c len)) MalformedRecord tt (λ _. zeros))
 
-module _ (r : Request) (entries : List ℕ) where
+module _ (r : Request) (room : ℕ) (entries : List ℕ) where
   sizes-early : Early (check-method (r .method) then check-size (r .size) then check-entries (r .size) (length entries))
   sizes-early =
       let n = r .size in
@@ -65,19 +67,22 @@ module _ (r : Request) (entries : List ℕ) where
       let f = firstUnsymmetric n (doubles entries) in
       refuse-early (ltb f (n * n)) (Unsymmetric (f / n) (f % n)) tt (λ e. cell-fits n f (l .some) (l .square .small) (ltb-true f (n * n) e))
 
-  request-early : Early (request-checks r entries)
+  lent-early : Early (check-buffer longestAnswer room)
+  lent-early = refuse-early (not (eqb room longestAnswer)) BufferLength tt (λ _. zeros)
+
+  request-early : Early (request-checks r room entries)
   unfolding request-checks
-  request-early = then-keeps Early _ _ sizes-early (λ h. finite-early (sized r entries h))
+  request-early = then-keeps Early _ _ (then-keeps Early _ _ sizes-early (λ _. lent-early)) (λ h. finite-early (sized r room entries (both-accepted _ _ h .0)))
 
-module _ (b : List ℕ) where
-  pub bytes-early : Early (byte-checks b)
+module _ (b : List ℕ) (room : ℕ) where
+  pub bytes-early : Early (byte-checks b room)
   unfolding byte-checks
-  bytes-early = then-keeps Early _ _ (fields-early (length b) (walk b)) (λ _. request-early (request b) (entriesOf b))
+  bytes-early = then-keeps Early _ _ (fields-early (length b) (walk b)) (λ _. request-early (request b) room (entriesOf b))
 
-  pub bytes-parts : Accepted (byte-checks b) → Accepted (request-checks (request b) (entriesOf b))
+  pub bytes-parts : Accepted (byte-checks b room) → Accepted (request-checks (request b) room (entriesOf b))
   unfolding byte-checks
   bytes-parts h = both-accepted _ _ h .1
 
-  pub checks-early : Early (record-checks b)
+  pub checks-early : Early (record-checks b room)
   unfolding record-checks
-  checks-early = then-keeps Early _ _ bytes-early (λ h. symmetric-early (request b) (entriesOf b) (request-accepted (request b) (entriesOf b) (bytes-parts h) .0))
+  checks-early = then-keeps Early _ _ bytes-early (λ h. symmetric-early (request b) room (entriesOf b) (request-accepted (request b) room (entriesOf b) (bytes-parts h) .0))

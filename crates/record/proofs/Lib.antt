@@ -1,14 +1,9 @@
 pub mod Example
-pub mod Numbers
 pub mod Walk
 pub mod MatrixRecord
-pub mod Doubles
 pub mod Accepted
-pub mod ByteLaws
 pub mod Reading
 pub mod Answers
-pub mod Over
-pub mod WriteLaws
 pub mod WriteFields
 pub mod ReadFields
 pub mod ReadBack
@@ -16,3 +11,4 @@ pub mod AnswerLength
 pub mod Early
 pub mod SoundFits
 pub mod Whole
+pub mod ReadBackTheorem

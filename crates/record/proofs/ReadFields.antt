@@ -5,9 +5,10 @@ use Prim.Native.Nat.{ℕ, zero, suc, _≤_, _<_}
 use native.Mathlib.Omega.{arith}
 use lib.ListN.{length, take, drop}
 use lib.Seq.{take-append-seam, drop-append-seam}
-use Rattle.record.specs.Bytes.{lowFirst, bytes, field}
+use Rattle.encoding.specs.Bytes.{lowFirst, bytes}
+use Rattle.record.specs.Field.{field}
 use Rattle.record.specs.ReadBack.{Field, split}
-use Rattle.record.proofs.Numbers.{number-bytes}
+use Rattle.encoding.proofs.Numbers.{number-bytes}
 
 unfoldable pub join : List Field → List ℕ
 unfolding bytes

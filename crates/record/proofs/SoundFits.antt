@@ -1,17 +1,13 @@
 -- The answer to any list of bytes fits an answer record.
-use mathlib.Core.Path.{_≡_, refl, subst}
-use mathlib.Core.Bool.{true}
+use mathlib.Core.Path.{_≡_, refl}
 use mathlib.Core.List.{List}
-use Prim.Native.Nat.{ℕ, _*_, _/_, _%_, _≤_, _<_}
-use native.Mathlib.Nat.{div-add-mod', div-lt-iff-lt-mul, mod-lt}
+use Prim.Native.Nat.{ℕ, _≤_, _<_}
 use native.Mathlib.Omega.{arith}
-use lib.ListN.{length, getD}
-use lib.Ieee.{Float, nan}
-use lib.Ieee.Scale.{finite}
+use lib.ListN.{length}
+use lib.Ieee.{Float}
 use Rattle.arithmetic.specs.Outcome.{place, complete}
 use Rattle.arithmetic.specs.declared.outcome.Outcome.{Outcome}
 use Rattle.arithmetic.specs.declared.outcome.Outcome.the-variants.{StoredNotFinite}
-use Rattle.matrix.specs.Matrix.{at}
 use Rattle.matrix.proofs.CellLaws.{square-small}
 use Rattle.matrix.specs.Checks.{check-symmetric}
 use Rattle.arithmetic.proofs.Cases.{is, holds, fails}
@@ -30,21 +26,17 @@ use Rattle.methods.specs.declared.decomposition.Mark.{Mark}
 use Rattle.methods.specs.declared.decomposition.Mark.the-variants.{Never, Step}
 use Rattle.results.specs.Results.{Sound, MarksBelow}
 use Rattle.results.proofs.Theorem.{results}
-use Rattle.record.specs.Bytes.{doubles}
+use Rattle.encoding.specs.Bytes.{doubles}
+use Rattle.encoding.proofs.Checked.{each-entry}
 use Rattle.record.specs.MatrixRecord.{request, entriesOf, request-checks, byte-checks}
 use Rattle.record.specs.AnswerRecord.{longestAnswer}
 use Rattle.record.specs.Record.{refused, resultOf, resultTo, answer}
-use Rattle.record.specs.Writing.{EachFinite, PlaceFits, Fits}
+use Rattle.record.specs.Writing.{PlaceFits, Fits}
 use Rattle.record.specs.declared.read.Request.{Request}
 use Rattle.record.proofs.Accepted.{request-accepted, matrix-accepted}
 use Rattle.record.proofs.Answers.{answer-request, bytes-refused}
 use Rattle.record.proofs.AnswerLength.{answer-fits}
 use Rattle.record.proofs.Early.{symmetric-early, bytes-early, bytes-parts}
-
-entries-finite : (n : ℕ) (l : List Float) → 0 < n → length l ≡ n * n → ((i j : ℕ) → i < n → j < n → finite (at n l i j) ≡ true) → EachFinite l
-entries-finite n l np e h k q =
-    let lt : k < n * n = omega arith in
-    subst (λ (x : ℕ). finite (getD l x nan) ≡ true) (div-add-mod' k n) (h (k / n) (k % n) (div-lt-iff-lt-mul np .1 lt) (mod-lt k np))
 
 sound-fits : (n : ℕ) (r : Result) → 0 < n → n ≤ 48 → Sound n r → PlaceFits (place (r .decomposition .outcome)) → Fits r
 sound-fits n r np h s t = record {
@@ -52,7 +44,7 @@ sound-fits n r np h s t = record {
   placed = t;
   order = λ k q. omega (arith, s .permutation .len, s .permutation .below k (omega (arith, s .permutation .len)));
   amounts = λ k q. s .amounts .finite-amounts k (omega (arith, s .amounts .len));
-  factor = entries-finite n (r .l) np (s .lower .len) (s .lower .finite-entries);
+  factor = each-entry n (r .l) np (s .lower .len) (s .lower .finite-entries);
   order-length = omega (arith, s .permutation .len);
   amounts-length = omega (arith, s .amounts .len);
   factor-length = omega (arith, s .lower .len, square-small n h);
@@ -84,30 +76,30 @@ refused-fits o t = record {
     never : (j : ℕ) → _≡_ {A = Mark} Never (Step j) → ⊥
     never j e = let z : _≡_ {A = ℕ} 0 1 = cc in omega arith
 
-module _ (r : Request) (entries : List ℕ) (h : Accepted (request-checks r entries)) where
+module _ (r : Request) (room : ℕ) (entries : List ℕ) (h : Accepted (request-checks r room entries)) where
   run-fits : Accepted (check-symmetric (r .size) (doubles entries)) → Fits (factor (methodOf (r .method)) tolerances (r .size) (doubles entries))
   run-fits k =
       let n = r .size in
       let a = doubles entries in
       let method = methodOf (r .method) in
-      let L = request-accepted r entries h .0 in
-      let s = results method n a (L .some) (matrix-accepted r entries h k) in
+      let L = request-accepted r room entries h .0 in
+      let s = results method n a (L .some) (matrix-accepted r room entries h k) in
       sound-fits n (factor method tolerances n a) (L .some) (L .square .small) s (run-placed method tolerances n a (L .square .small) (s .marks))
 
   pub request-fits : Fits (resultTo r entries)
   unfolding resultTo
   request-fits = elim (is (complete (check-symmetric (r .size) (doubles entries)))) [
     | holds c ↦ rw c (run-fits (record { is = c }))
-    | fails c ↦ rw c (refused-fits (check-symmetric (r .size) (doubles entries)) (symmetric-early r entries (request-accepted r entries h .0) .placed))
+    | fails c ↦ rw c (refused-fits (check-symmetric (r .size) (doubles entries)) (symmetric-early r room entries (request-accepted r room entries h .0) .placed))
   ]
 
 module _ (b : List ℕ) where
-  pub bytes-fit : Fits (refused (byte-checks b))
-  bytes-fit = refused-fits (byte-checks b) (bytes-early b .placed)
+  pub bytes-fit : Fits (refused (byte-checks b longestAnswer))
+  bytes-fit = refused-fits (byte-checks b longestAnswer) (bytes-early b longestAnswer .placed)
 
   result-fits : Fits (resultOf b)
-  result-fits = elim (is (complete (byte-checks b))) [
-    | holds c ↦ rw (answer-request b c) (request-fits (request b) (entriesOf b) (bytes-parts b (record { is = c })))
+  result-fits = elim (is (complete (byte-checks b longestAnswer))) [
+    | holds c ↦ rw (answer-request b c) (request-fits (request b) longestAnswer (entriesOf b) (bytes-parts b longestAnswer (record { is = c })))
     | fails c ↦ rw (bytes-refused b c) bytes-fit
   ]
 

@@ -11,7 +11,8 @@ use borrow.Author.Tests.{ltb-true, ltb-false, lt-ltb}
 use Rattle.arithmetic.specs.declared.outcome.Outcome.{Outcome}
 use Rattle.arithmetic.specs.declared.outcome.Outcome.the-variants.{Complete, MalformedRecord}
 use Rattle.arithmetic.proofs.Cases.{same-tests}
-use Rattle.record.specs.Bytes.{lowFirst, field}
+use Rattle.encoding.specs.Bytes.{lowFirst}
+use Rattle.record.specs.Field.{field}
 use Rattle.record.specs.Cursor.{after, nothingDue, noted, partAt, cut, passField}
 use Rattle.record.specs.MatrixRecord.{check-walk}
 use Rattle.record.specs.declared.cursor.Cursor.{Cursor}
@@ -19,7 +20,7 @@ use Rattle.record.specs.declared.cursor.Part.{Part}
 use Rattle.record.specs.declared.cursor.Parts.{Parts}
 use Rattle.record.specs.declared.cursor.Stage.{Stage}
 use Rattle.record.specs.declared.cursor.Stage.the-variants.{SizeDue, MethodDue, EntriesDue, Done, PastEnd, WrongTag}
-use Rattle.record.proofs.Numbers.{take-more}
+use Rattle.encoding.proofs.Numbers.{take-more}
 
 -- ---- a field's header
 module _ (b : List ℕ) (at : ℕ) (h : 3 ≤ length b - at) where

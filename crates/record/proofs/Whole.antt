@@ -4,10 +4,10 @@ use mathlib.Core.List.{List, []}
 use mathlib.Core.Bool.{true, false, false≢true}
 use Prim.Native.Nat.{ℕ, _+_, _*_, _≤_}
 use native.Mathlib.Omega.{arith}
-use borrow.Author.Tests.{eq-eqb, ne-eqb, eqb-true}
+use borrow.Author.Tests.{eq-eqb, ne-eqb}
 use lib.ListN.{length, getD}
 use lib.Seq.{length-take-le}
-use lib.Dec.{T, eqb}
+use lib.Dec.{T}
 use lib.Ieee.{Float, nan, binary64, fits}
 use Rattle.arithmetic.specs.Outcome.{complete, place, _then_}
 use Rattle.arithmetic.specs.declared.outcome.Outcome.{Outcome}
@@ -18,18 +18,19 @@ use Rattle.methods.specs.Factor.{factor, tolerances}
 use Rattle.methods.specs.Calls.{Call, call, answered, methodOf, Operands}
 use Rattle.methods.specs.declared.method.Method.{Method}
 use Rattle.methods.specs.declared.decomposition.Decomposition.{Decomposition}
-use Rattle.record.specs.Bytes.{doubles}
+use Rattle.encoding.specs.Bytes.{doubles}
 use Rattle.record.specs.Cursor.{contentAt, walk}
 use Rattle.record.specs.MatrixRecord.{requestOf, request, entriesOf, check-record, request-checks, byte-checks}
 use Rattle.record.specs.AnswerRecord.{longestAnswer, answer-record}
-use Rattle.record.specs.Record.{refused, resultTo, Lent, requestCall, answer, Written, written, Counts, record-call}
-use Rattle.record.specs.Writing.{over, Front, MarksFit, PlaceFits, Fits, result}
+use Rattle.record.specs.Record.{refused, resultOf, resultTo, Lent, requestCall, answer, recordCall, Answers, Counts, record-call}
+use Rattle.record.specs.Writing.{Front, MarksFit, PlaceFits, Fits, result}
 use Rattle.record.specs.declared.cursor.Cursor.{Cursor}
 use Rattle.record.specs.declared.read.Request.{Request}
 use Rattle.record.proofs.Accepted.{request-accepted}
-use Rattle.record.proofs.Answers.{answer-request, bytes-refused}
+use Rattle.record.specs.declared.answer.RecordAnswer.{RecordAnswer}
+use Rattle.record.proofs.Answers.{answer-request, bytes-refused, other-checks}
 use Rattle.record.proofs.WriteFields.{refused-alike}
-use Rattle.record.proofs.Over.{length-over}
+use Rattle.encoding.proofs.Over.{length-over}
 use Rattle.record.proofs.SoundFits.{request-fits, bytes-fit, answer-length-at-most}
 
 -- ---- check 8, then the run
@@ -56,10 +57,10 @@ module _ (r : Request) (a l work e : List Float) (p : List ℕ) where
   request-ran method x h em ex = ex ∙ rw (em, h .is)
 
 -- what is lent to them
-pub lends : (r : Request) (entries : List ℕ) (a : List Float) (l work e p : ℕ) → Accepted (request-checks r entries) → a ≡ doubles entries
+pub lends : (r : Request) (room : ℕ) (entries : List ℕ) (a : List Float) (l work e p : ℕ) → Accepted (request-checks r room entries) → a ≡ doubles entries
     → l ≡ r .size * r .size → work ≡ r .size * r .size → e ≡ r .size → p ≡ r .size → Lent (r .size) a l work e p
-lends r entries a l work e p h reads el ew ee ep =
-    let A = request-accepted r entries h in
+lends r room entries a l work e p h reads el ew ee ep =
+    let A = request-accepted r room entries h in
     rw reads (record { some = A .0 .some; square = A .0 .square; finite-entries = entries-accepted (r .size) (doubles entries) (A .0 .square) (A .1); l-is = el; work-is = ew; e-is = ee; p-is = ep })
 
 -- ---- check 8 and the run, on lent buffers, give the result
@@ -82,15 +83,22 @@ module _ (r : Request) (entries : List ℕ) (a l work e : List Float) (p : List 
     | fails c ↦ absurd (false≢true (sym c ∙ (rw (decomposition-is, c) at o)))
   ]
 
-  module _ (h : Accepted (request-checks r entries)) where
-    pub complete-answers : complete (d .outcome) ≡ true → Fits (result d l′ e′ p′) × (answer-record (result d l′ e′ p′) ≡ answer-record (resultTo r entries))
-    complete-answers o = (rw (result-is o) (request-fits r entries h), ap answer-record (result-is o))
+  module _ (room : ℕ) (h : Accepted (request-checks r room entries)) where
+    pub complete-fits : complete (d .outcome) ≡ true → Fits (result d l′ e′ p′)
+    complete-fits o = rw (result-is o) (request-fits r room entries h)
 
-    pub refused-answers : complete (d .outcome) ≡ false → (MarksFit d × PlaceFits (place (d .outcome))) × (answer-record (result d [] [] []) ≡ answer-record (resultTo r entries))
-    refused-answers o =
-        let f = request-fits r entries h in
+    pub refused-fits : MarksFit d × PlaceFits (place (d .outcome))
+    refused-fits = let f = request-fits r room entries h in (rw decomposition-is (f .marks), rw decomposition-is (f .placed))
+
+  module _ (out out′ : List ℕ) (len : ℕ) where
+    pub complete-answers : complete (d .outcome) ≡ true → Front (answer-record (result d l′ e′ p′)) out out′ len → Answers (resultTo r entries) out out′ (record { outcome = d .outcome; len = len })
+    complete-answers o w = record { front = rw (← result-is o) w; outcome-is = ap (λ (x : Decomposition). x .outcome) decomposition-is }
+
+    pub refused-answers : complete (d .outcome) ≡ false → Front (answer-record (result d [] [] [])) out out′ len → Answers (resultTo r entries) out out′ (record { outcome = d .outcome; len = len })
+    refused-answers o w =
         let t = resultTo r entries in
-        ((rw decomposition-is (f .marks), rw decomposition-is (f .placed)), rw decomposition-is (refused-alike (t .decomposition) [] (t .l) [] (t .e) [] (t .p) (rw decomposition-is at o)))
+        let e : answer-record (result d [] [] []) ≡ answer-record t = rw decomposition-is (refused-alike (t .decomposition) [] (t .l) [] (t .e) [] (t .p) (rw decomposition-is at o)) in
+        record { front = rw (← e) w; outcome-is = ap (λ (x : Decomposition). x .outcome) decomposition-is }
 
 -- ---- what is read off a walk over b
 module _ (b : List ℕ) (c : Cursor) (r : Request) (entries : List ℕ) (walks : c ≡ walk b) (reads : r ≡ requestOf b c) (part : entries ≡ contentAt b (r .entries)) where
@@ -101,46 +109,33 @@ module _ (b : List ℕ) (c : Cursor) (r : Request) (entries : List ℕ) (walks :
   pub entries-read : entries ≡ entriesOf b
   entries-read = part ∙ rw request-read
 
-  pub checks-made : (first rest o : Outcome) → first ≡ check-record (length b) c → rest ≡ request-checks r entries → o ≡ (first then rest) → o ≡ byte-checks b
+  pub checks-made : (room : ℕ) (first rest o : Outcome) → first ≡ check-record (length b) c → rest ≡ request-checks r room entries → o ≡ (first then rest) → o ≡ byte-checks b room
   unfolding byte-checks
-  checks-made first rest o ef er eo = eo ∙ rw (ef, er, walks, entries-read, request-read)
+  checks-made room first rest o ef er eo = eo ∙ rw (ef, er, walks, entries-read, request-read)
+
+  pub request-answers : complete (byte-checks b longestAnswer) ≡ true → (out out′ : List ℕ) (x : RecordAnswer) → Answers (resultTo r entries) out out′ x → Answers (resultOf b) out out′ x
+  request-answers h out out′ x w = rw (answer-request b h) (rw (entries-read, request-read) at w)
 
 -- ---- the checks on bytes decide
 module _ (b : List ℕ) where
-  pub bytes-answer : complete (byte-checks b) ≡ false → (d : Decomposition) → d ≡ refused (byte-checks b) .decomposition
-      → ((complete (d .outcome) ≡ false) × (MarksFit d × PlaceFits (place (d .outcome)))) × (answer-record (result d [] [] []) ≡ answer b)
-  unfolding answer
-  bytes-answer h d e = let f = bytes-fit b in rw e ((h, (f .marks, f .placed)), sym (ap answer-record (bytes-refused b h)))
+  pub bytes-fits : complete (byte-checks b longestAnswer) ≡ false → (d : Decomposition) → d ≡ refused (byte-checks b longestAnswer) .decomposition
+      → (complete (d .outcome) ≡ false) × (MarksFit d × PlaceFits (place (d .outcome)))
+  bytes-fits h d e = let f = bytes-fit b in rw e (h, (f .marks, f .placed))
 
-  pub request-answer : complete (byte-checks b) ≡ true → answer-record (resultTo (request b) (entriesOf b)) ≡ answer b
-  unfolding answer
-  request-answer h = sym (ap answer-record (answer-request b h))
+  pub bytes-answers : complete (byte-checks b longestAnswer) ≡ false → (o : Outcome) → o ≡ byte-checks b longestAnswer → (d : Decomposition) → d ≡ refused o .decomposition
+      → (out out′ : List ℕ) (len : ℕ) → Front (answer-record (result d [] [] [])) out out′ len → Answers (resultOf b) out out′ (record { outcome = o; len = len })
+  bytes-answers h o eo d ed out out′ len w = rw (bytes-refused b h) (record { front = rw (ed, eo) at w; outcome-is = eo })
 
 -- ---- the call
 module _ (b out : List ℕ) where
-  returns-is : (length out ≡ longestAnswer → ⊥) → written 0 out ≡ record-call b out
+  pub call-returns : (outcome : Outcome) → outcome ≡ byte-checks b (length out) → (length out ≡ longestAnswer → ⊥) → (recordCall outcome 0 out ≡ record-call b out) × Counts 0 out
   unfolding record-call
-  returns-is h = rw (ne-eqb (length out) longestAnswer h)
+  call-returns outcome e h = (ap (λ (o : Outcome). recordCall o 0 out) (e ∙ sym (other-checks b (length out) h)) ∙ rw (ne-eqb (length out) longestAnswer h), (omega arith, refl))
 
-  writes-is : (len : ℕ) (out′ : List ℕ) → length out ≡ longestAnswer → Front (answer b) out out′ len → written len out′ ≡ record-call b out
-  unfolding record-call
-  writes-is len out′ h w = rw (eq-eqb (length out) longestAnswer h, w .0, w .1)
-
-  call-counts : (len : ℕ) (out′ : List ℕ) → written len out′ ≡ record-call b out → Counts len out′
-  unfolding record-call
-  call-counts len out′ w = elim (is (eqb (length out) longestAnswer)) [
-    | holds t ↦
-        let e : length out ≡ longestAnswer = eqb-true (length out) longestAnswer t in
-        let c : written len out′ ≡ written (length (answer b)) (over out 0 (answer b)) = rw t at w in
-        let n : len ≡ length (answer b) = ap (λ (x : Written). x .len) c in
-        let o : length out′ ≡ length out = ap (λ (x : Written). length (x .out)) c ∙ length-over out 0 (answer b) (omega (arith, answer-length-at-most b)) in
-        let l : len ≤ length out′ = omega (arith, answer-length-at-most b) in
-        (l, sym (length-take-le len out′ l))
-    | fails t ↦ let c : written len out′ ≡ written 0 out = rw t at w in let n : len ≡ 0 = ap (λ (x : Written). x .len) c in rw n (omega arith, refl)
-  ]
-
-  pub call-returns : (length out ≡ longestAnswer → ⊥) → (written 0 out ≡ record-call b out) × Counts 0 out
-  call-returns h = (returns-is h, call-counts 0 out (returns-is h))
-
-  pub call-writes : (len : ℕ) (out′ : List ℕ) → length out ≡ longestAnswer → Front (answer b) out out′ len → (written len out′ ≡ record-call b out) × Counts len out′
-  call-writes len out′ h w = (writes-is len out′ h w, call-counts len out′ (writes-is len out′ h w))
+  pub call-writes : (r : RecordAnswer) (out′ : List ℕ) → length out ≡ longestAnswer → Answers (resultOf b) out out′ r → (recordCall (r .outcome) (r .len) out′ ≡ record-call b out) × Counts (r .len) out′
+  unfolding record-call answer
+  call-writes r out′ h w =
+      let l : length out′ ≡ length out = ap length (w .front .0) ∙ length-over out 0 (answer b) (omega (arith, answer-length-at-most b)) in
+      let n : r .len ≡ length (answer b) = w .front .1 in
+      let s : r .len ≤ length out′ = omega (arith, answer-length-at-most b) in
+      (rw (eq-eqb (length out) longestAnswer h, w .front .0, w .front .1, w .outcome-is), (s, sym (length-take-le (r .len) out′ s)))

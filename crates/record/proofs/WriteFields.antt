@@ -10,11 +10,13 @@ use Rattle.arithmetic.specs.Outcome.{number, place, complete}
 use Rattle.arithmetic.specs.declared.outcome.Place.{Place}
 use Rattle.methods.specs.Result.{Result}
 use Rattle.methods.specs.declared.decomposition.Decomposition.{Decomposition}
-use Rattle.record.specs.Bytes.{bytes, field, doubleBytes}
+use Rattle.encoding.specs.Bytes.{bytes, doubleBytes}
+use Rattle.record.specs.Field.{field}
 use Rattle.record.specs.AnswerRecord.{stepByte, marksFields, factorFields, placeField, answer-record}
-use Rattle.record.specs.Writing.{over, Wrote, Front, result}
-use Rattle.record.proofs.ByteLaws.{length-bytes, length-content}
-use Rattle.record.proofs.Over.{over-then}
+use Rattle.encoding.specs.Writing.{over, Wrote}
+use Rattle.record.specs.Writing.{Front, result}
+use Rattle.encoding.proofs.ByteLaws.{length-bytes, length-content}
+use Rattle.encoding.proofs.Over.{over-then}
 
 pub head-written : (out a b r : List ℕ) (at p q next tag len : ℕ) → at + 3 ≤ length out → len < 65536
     → (a ≡ over out at (tag ∷ [])) × (p ≡ at + 1) → (b ≡ over a p (len % 256 ∷ [])) × (q ≡ p + 1) → (r ≡ over b q (len / 256 ∷ [])) × (next ≡ q + 1)

@@ -5,7 +5,7 @@ use Prim.Native.Nat.{ℕ, _+_, _-_}
 use lib.ListN.{length, getD, take, drop}
 use lib.Dec.{eqb, ltb}
 use Rattle.arithmetic.specs.Loop.{range}
-use Rattle.record.specs.Bytes.{lowFirst}
+use Rattle.encoding.specs.Bytes.{lowFirst}
 use Rattle.record.specs.declared.cursor.Cursor.{Cursor}
 use Rattle.record.specs.declared.cursor.Part.{Part}
 use Rattle.record.specs.declared.cursor.Parts.{Parts}

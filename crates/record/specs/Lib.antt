@@ -1,7 +1,8 @@
-pub mod Bytes
+pub mod Field
 pub mod Cursor
-pub mod MatrixRecord
 pub mod AnswerRecord
+pub mod MatrixRecord
 pub mod Writing
 pub mod Record
 pub mod ReadBack
+pub mod ReadBackTheorem

@@ -1,16 +1,19 @@
--- What a matrix record means: the request that a walk over its fields finds, then the checks 1, 2, 3, 4, 7 and 8.
+-- What a matrix record means: the request that a walk over its fields finds, then the checks 1, 2, 3, 4, 5, 7 and 8.
 use mathlib.Core.List.{List, [], _∷_, _++_}
 use mathlib.Core.Bool.{Bool, not, _&&_}
-use Prim.Native.Nat.{ℕ, _*_}
+use Prim.Native.Nat.{ℕ}
 use lib.ListN.{length, getD}
 use lib.Dec.{eqb, ltb}
 use lib.Ieee.{Float}
 use Rattle.arithmetic.specs.Outcome.{refuse, _then_}
 use Rattle.arithmetic.specs.declared.outcome.Outcome.{Outcome}
-use Rattle.arithmetic.specs.declared.outcome.Outcome.the-variants.{Complete, MalformedRecord, MatrixLength}
-use Rattle.matrix.specs.Checks.{check-size, check-finite, check-symmetric}
+use Rattle.arithmetic.specs.declared.outcome.Outcome.the-variants.{Complete, MalformedRecord}
+use Rattle.matrix.specs.Checks.{check-size, check-buffer, check-finite, check-symmetric}
 use Rattle.methods.specs.Calls.{check-method}
-use Rattle.record.specs.Bytes.{bytes, field, doubles}
+use Rattle.encoding.specs.Bytes.{bytes, doubles}
+use Rattle.record.specs.Field.{field}
+use Rattle.encoding.specs.Checks.{check-entries}
+use Rattle.record.specs.AnswerRecord.{longestAnswer}
 use Rattle.record.specs.Cursor.{contentAt, walk}
 use Rattle.record.specs.declared.cursor.Cursor.{Cursor}
 use Rattle.record.specs.declared.cursor.Stage.{Stage}
@@ -60,21 +63,17 @@ check-exact c len = refuse (not (exact c len)) MalformedRecord
 unfoldable pub check-record : ℕ → Cursor → Outcome
 check-record len c = check-longest len then check-walk (c .stage) then check-exact c len
 
--- ---- 2, 3, 4 and 7, of a request and the bytes of its entries
--- 4, in a record 8n² bytes
-abbrev pub check-entries : ℕ → ℕ → Outcome
-check-entries n len = refuse (not (eqb len (8 * (n * n)))) MatrixLength
-
-unfoldable pub request-checks : Request → List ℕ → Outcome
+-- ---- 2, 3, 4, 5 and 7, of a request, the length of the buffer lent for its answer, and the bytes of its entries
+unfoldable pub request-checks : Request → ℕ → List ℕ → Outcome
 unfolding doubles
-request-checks r entries =
-    check-method (r .method) then check-size (r .size) then check-entries (r .size) (length entries) then check-finite (r .size) (doubles entries)
+request-checks r room entries =
+    check-method (r .method) then check-size (r .size) then check-entries (r .size) (length entries) then check-buffer longestAnswer room then check-finite (r .size) (doubles entries)
 
--- ---- 1, 2, 3, 4, 7: what is checked on bytes; then 8
-unfoldable pub byte-checks : List ℕ → Outcome
+-- ---- 1, 2, 3, 4, 5, 7: what is checked on bytes, with a buffer of `room` bytes for the answer; then 8
+unfoldable pub byte-checks : List ℕ → ℕ → Outcome
 unfolding check-record request-checks request walk
-byte-checks b = check-record (length b) (walk b) then request-checks (request b) (entriesOf b)
+byte-checks b room = check-record (length b) (walk b) then request-checks (request b) room (entriesOf b)
 
-unfoldable pub record-checks : List ℕ → Outcome
+unfoldable pub record-checks : List ℕ → ℕ → Outcome
 unfolding byte-checks request doubles
-record-checks b = byte-checks b then check-symmetric (request b .size) (matrixOf b)
+record-checks b room = byte-checks b room then check-symmetric (request b .size) (matrixOf b)

@@ -9,7 +9,7 @@ use Rattle.arithmetic.specs.declared.outcome.Outcome.the-variants.{Complete, Ma
 use Rattle.methods.specs.Result.{Result}
 use Rattle.methods.specs.declared.decomposition.Mark.{Mark}
 use Rattle.methods.specs.declared.decomposition.Mark.the-variants.{Never, Step}
-use Rattle.record.specs.Bytes.{lowFirst, doubles}
+use Rattle.encoding.specs.Bytes.{lowFirst, doubles}
 
 pub record Field : Type 0 where
   pub tag : ℕ

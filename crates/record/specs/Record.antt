@@ -14,41 +14,47 @@ use Rattle.methods.specs.Result.{Result}
 use Rattle.methods.specs.Factor.{factor, tolerances}
 use Rattle.methods.specs.Calls.{Call, methodOf, answered, untouched}
 use Rattle.methods.specs.declared.decomposition.Mark.the-variants.{Never}
-use Rattle.record.specs.Bytes.{doubles}
+use Rattle.encoding.specs.Bytes.{doubles}
 use Rattle.record.specs.MatrixRecord.{request, matrixOf, record-checks}
 use Rattle.record.specs.AnswerRecord.{longestAnswer, answer-record}
-use Rattle.record.specs.Writing.{over}
+use Rattle.encoding.specs.Writing.{over}
+use Rattle.record.specs.Writing.{Front}
+use Rattle.record.specs.declared.answer.RecordAnswer.{RecordAnswer}
 use Rattle.record.specs.declared.read.Request.{Request}
 
 -- refused before the first step
 abbrev pub refused : Outcome → Result
 refused outcome = record { decomposition = record { outcome = outcome; tied = Never; phase2 = Never }; l = []; e = []; p = [] }
 
--- what a record's checks and run end with
+-- what a record's checks and run end with, where the answer's buffer has its own length
 unfoldable pub resultOf : List ℕ → Result
 unfolding record-checks request factor doubles
-resultOf b = cond (complete (record-checks b)) (factor (methodOf (request b .method)) tolerances (request b .size) (matrixOf b)) (refused (record-checks b))
+resultOf b = let checks = record-checks b longestAnswer in
+    cond (complete checks) (factor (methodOf (request b .method)) tolerances (request b .size) (matrixOf b)) (refused checks)
 
 unfoldable pub answer : List ℕ → List ℕ
 unfolding resultOf answer-record
 answer b = answer-record (resultOf b)
 
--- ---- what the record call hands back: the answer's length, and the buffer
-pub record Written : Type 0 where
-  pub len : ℕ
+-- ---- what the record call hands back: its outcome with the answer's length, and the buffer
+pub record RecordCall : Type 0 where
+  pub answer : RecordAnswer
   pub out : List ℕ
 
-abbrev pub written : ℕ → List ℕ → Written
-written len out = record { len = len; out = out }
+abbrev pub recordCall : Outcome → ℕ → List ℕ → RecordCall
+recordCall outcome len out = record { answer = record { outcome = outcome; len = len }; out = out }
 
 -- the answer is the first bytes of the buffer, which `&out[..n]` asks for
 abbrev pub Counts : ℕ → List ℕ → Type 0
 Counts n out = (n ≤ length out) × (n ≡ length (take n out))
 
--- a buffer of another length stays as it is, and the length is 0
-unfoldable pub record-call : List ℕ → List ℕ → Written
+-- a buffer of another length stays as it is, and the length is 0: the outcome is then 5, or an earlier check's
+unfoldable pub record-call : List ℕ → List ℕ → RecordCall
 unfolding answer over
-record-call b out = cond (eqb (length out) longestAnswer) (written (length (answer b)) (over out 0 (answer b))) (written 0 out)
+record-call b out =
+    cond (eqb (length out) longestAnswer)
+    (recordCall (resultOf b .decomposition .outcome) (length (answer b)) (over out 0 (answer b)))
+    (recordCall (record-checks b (length out)) 0 out)
 
 -- ---- a request that passed the checks on bytes: check 8, then the run
 unfoldable pub resultTo : Request → List ℕ → Result
@@ -57,6 +63,11 @@ resultTo r entries =
     let a = doubles entries in
     let symmetric = check-symmetric (r .size) a in
     cond (complete symmetric) (factor (methodOf (r .method)) tolerances (r .size) a) (refused symmetric)
+
+-- the answer to a result stands at the front of the buffer, and its length and outcome are handed back
+pub record Answers (t : Result) (out out′ : List ℕ) (r : RecordAnswer) : Type 0 where
+  pub front : Front (answer-record t) out out′ (r .len)
+  pub outcome-is : r .outcome ≡ t .decomposition .outcome
 
 -- the lengths of a matrix of n rows, of L, work, e and p
 abbrev pub Buffers : ℕ → ℕ → ℕ → ℕ → ℕ → ℕ → Type 0

@@ -5,14 +5,14 @@ ghost use lib.ListN.{length};
 ghost use Rattle.arithmetic.specs.Outcome.{complete};
 ghost use Rattle.methods.specs.Calls.{call};
 ghost use Rattle.record.specs.MatrixRecord.{request-checks};
-ghost use Rattle.record.specs.AnswerRecord.{longestAnswer, answer-record};
-ghost use Rattle.record.specs.Record.{Buffers, Lent, requestCall, resultTo, written, record-call, Counts};
-ghost use Rattle.record.specs.Writing.{Front};
+ghost use Rattle.record.specs.Record.{Answers, Buffers, Lent, requestCall, resultTo, recordCall, record-call, Counts};
 use crate::cursor;
 use crate::read;
 use crate::read::Request;
 use crate::write;
 use crate::write::LONGEST_ANSWER;
+use arithmetic::outcome::Outcome;
+use encoding::read::read_doubles;
 use matrix::checks::check_symmetric;
 use methods::decomposition::Decomposition;
 use methods::method::Method;
@@ -38,6 +38,12 @@ fn factor_request(
     calls::run(Method::of(r.method), a, n, l, work, e, p)
 }
 
+// How the call ended, and the answer's length.
+pub struct RecordAnswer {
+    pub outcome: Outcome,
+    pub len: usize,
+}
+
 // The request's matrix is read into a.
 fn answer_entries(
     r: Request,
@@ -48,26 +54,30 @@ fn answer_entries(
     work: &mut [f64],
     e: &mut [f64],
     p: &mut [usize],
-) -> usize
-    requires { ⌜ complete (request-checks r (now entries)) ≡ true ⌝ }
-    requires { ⌜ length (now out) ≡ longestAnswer ⌝ }
+) -> RecordAnswer
+    requires { ⌜ complete (request-checks r (length (now out)) (now entries)) ≡ true ⌝ }
     requires { ⌜ Buffers (r .size) (length (now a)) (length (now l)) (length (now work)) (length (now e)) (length (now p)) ⌝ }
-    ensures { λ len. ⌜ Front (answer-record (resultTo r (now (entries .entry)))) (now (out .entry)) (now (out .exit)) len ⌝ }
+    ensures { λ x. ⌜ Answers (resultTo r (now (entries .entry))) (now (out .entry)) (now (out .exit)) x ⌝ }
 {
-    read::read_doubles(entries, a);
+    read_doubles(entries, a);
     let d = factor_request(r, a, l, work, e, p);
     let outcome = d.outcome;
     if outcome.complete() {
-        return write::write_complete(out, d, l, e, p);
+        return RecordAnswer {
+            outcome,
+            len: write::write_complete(out, d, l, e, p),
+        };
     }
-    write::write_refusal(out, d)
+    RecordAnswer {
+        outcome,
+        len: write::write_refusal(out, d),
+    }
 }
 
 // The answer to a request that passed the checks on bytes.
-fn answer_request(r: Request, entries: &[u8], out: &mut [u8]) -> usize
-    requires { ⌜ complete (request-checks r (now entries)) ≡ true ⌝ }
-    requires { ⌜ length (now out) ≡ longestAnswer ⌝ }
-    ensures { λ len. ⌜ Front (answer-record (resultTo r (now (entries .entry)))) (now (out .entry)) (now (out .exit)) len ⌝ }
+fn answer_request(r: Request, entries: &[u8], out: &mut [u8]) -> RecordAnswer
+    requires { ⌜ complete (request-checks r (length (now out)) (now entries)) ≡ true ⌝ }
+    ensures { λ x. ⌜ Answers (resultTo r (now (entries .entry))) (now (out .entry)) (now (out .exit)) x ⌝ }
 {
     let mut a = [0.0; 2304];
     let mut l = [0.0; 2304];
@@ -88,20 +98,24 @@ fn answer_request(r: Request, entries: &[u8], out: &mut [u8]) -> usize
     )
 }
 
-// Writes the answer into out, which must have LONGEST_ANSWER bytes, and returns its length.
-pub fn answer(b: &[u8], out: &mut [u8]) -> usize
-    ensures { λ r. ⌜ written r (now (out .exit)) ≡ record-call (now (b .entry)) (now (out .entry)) ⌝ }
-    ensures { λ r. ⌜ Counts r (now (out .exit)) ⌝ }
+// Writes the answer into out, where it has LONGEST_ANSWER bytes.
+pub fn answer(b: &[u8], out: &mut [u8]) -> RecordAnswer
+    ensures { λ r. ⌜ recordCall (r .outcome) (r .len) (now (out .exit)) ≡ record-call (now (b .entry)) (now (out .entry)) ⌝ }
+    ensures { λ r. ⌜ Counts (r .len) (now (out .exit)) ⌝ }
 {
-    if out.len() != LONGEST_ANSWER {
-        return 0;
-    }
     let c = cursor::walk(b);
     let r = read::read_request(b, c);
     let entries = cursor::content(b, r.entries);
-    let checks = read::check_record(b.len(), c).then(read::request_checks(r, entries));
-    if !checks.complete() {
-        return write::write_refusal(out, calls::untouched(checks));
+    let room = out.len();
+    let outcome = read::check_record(b.len(), c).then(read::request_checks(r, room, entries));
+    if room != LONGEST_ANSWER {
+        return RecordAnswer { outcome, len: 0 };
+    }
+    if !outcome.complete() {
+        return RecordAnswer {
+            outcome,
+            len: write::write_refusal(out, calls::untouched(outcome)),
+        };
     }
     answer_request(r, entries, out)
 }

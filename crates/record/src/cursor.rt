@@ -3,6 +3,7 @@ ghost use mathlib.Core.Path.{_≡_};
 ghost use Prim.Native.Nat.{_-_, _≤_, _<_};
 ghost use lib.ListN.{length, getD};
 ghost use Rattle.record.specs.Cursor.{expect, after, nothingDue, noted, partAt, cut, contentAt, passField, walk};
+use encoding::read::whole;
 
 // Which field is due, or how the walk ended: a field's index counts those that stand in the record.
 pub enum Stage {
@@ -37,12 +38,6 @@ pub struct Cursor {
 
 // The most fields that a record has.
 const MOST_FIELDS: usize = 3;
-
-fn whole(x: u8) -> usize
-    ensures { λ r. ⌜ r ≡ x ⌝ }
-{
-    x as usize
-}
 
 // 0 past the end.
 pub fn byte_at(b: &[u8], at: usize) -> usize

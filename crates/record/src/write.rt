@@ -6,23 +6,20 @@ ghost use Prim.Native.Nat.{_+_, _*_, _≤_, _<_};
 ghost use lib.ListN.{length};
 ghost use Rattle.arithmetic.specs.Outcome.{complete, place};
 ghost use Rattle.matrix.specs.Plain.{AllBelow};
-ghost use Rattle.record.specs.Bytes.{bytes, field, doubleBytes};
+ghost use Rattle.encoding.specs.Bytes.{bytes, doubleBytes};
+ghost use Rattle.record.specs.Field.{field};
 ghost use Rattle.record.specs.AnswerRecord.{longestAnswer, stepByte, marksFields, factorFields, placeField, answer-record};
-ghost use Rattle.record.specs.Writing.{over, Wrote, Front, EachFinite, StepFits, MarksFit, PlaceFits, Fits, result};
+ghost use Rattle.encoding.specs.Writing.{over, Wrote, EachFinite};
+ghost use Rattle.record.specs.Writing.{Front, StepFits, MarksFit, PlaceFits, Fits, result};
 use arithmetic::outcome::Place;
+use encoding::write::write_byte;
+use encoding::write::write_doubles;
+use encoding::write::write_order;
 use methods::decomposition::Decomposition;
 use methods::decomposition::Mark;
 
 // A buffer of this length holds every answer.
 pub const LONGEST_ANSWER: usize = 18885;
-
-fn write_byte(out: &mut [u8], at: usize, v: u8) -> usize
-    requires { ⌜ at < length (now out) ⌝ }
-    ensures { λ r. ⌜ (now (out .exit) ≡ over (now (out .entry)) at (v ∷ [])) × (r ≡ at + 1) ⌝ }
-{
-    out[at] = v;
-    at + 1
-}
 
 // A field's tag and length.
 fn write_head(out: &mut [u8], at: usize, tag: u8, len: usize) -> usize
@@ -32,43 +29,6 @@ fn write_head(out: &mut [u8], at: usize, tag: u8, len: usize) -> usize
     let low = write_byte(out, at, tag);
     let high = write_byte(out, low, (len % 256) as u8);
     write_byte(out, high, (len / 256) as u8)
-}
-
-fn write_number(out: &mut [u8], at: usize, v: u64) -> usize
-    requires { ⌜ at + 8 ≤ length (now out) ⌝ }
-    ensures { λ r. ⌜ (now (out .exit) ≡ over (now (out .entry)) at (bytes 8 v)) × (r ≡ at + 8) ⌝ }
-{
-    let mut rest = v;
-    for i in 0..8usize {
-        out[at + i] = (rest % 256) as u8;
-        rest = rest / 256;
-    }
-    at + 8
-}
-
-fn write_doubles(out: &mut [u8], at: usize, x: &[f64]) -> usize
-    requires { ⌜ at + 8 * length (now x) ≤ length (now out) ⌝ }
-    requires { ⌜ EachFinite (now x) ⌝ }
-    ensures { λ r. ⌜ (now (out .exit) ≡ over (now (out .entry)) at (doubleBytes (now (x .entry)))) × (r ≡ at + 8 * length (now (x .entry))) ⌝ }
-{
-    let n = x.len();
-    let mut next = at;
-    for k in 0..n {
-        next = write_number(out, next, f64::to_bits(x[k]));
-    }
-    next
-}
-
-fn write_order(out: &mut [u8], at: usize, p: &[usize]) -> usize
-    requires { ⌜ at + length (now p) ≤ length (now out) ⌝ }
-    requires { ⌜ AllBelow 256 (now p) ⌝ }
-    ensures { λ r. ⌜ Wrote (now (p .entry)) at (now (out .entry)) (now (out .exit)) r ⌝ }
-{
-    let n = p.len();
-    for k in 0..n {
-        out[at + k] = p[k] as u8;
-    }
-    at + n
 }
 
 fn step_byte(m: Mark) -> u8

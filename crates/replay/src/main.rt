@@ -34,8 +34,8 @@ fn read_part(fd: i32, len: usize, buf: &mut [u8]) -> usize
 
 fn same_answer(input: &[u8], wanted: &[u8]) -> bool {
     let mut out = [0; LONGEST_ANSWER];
-    let n = answer(input, &mut out);
-    check::same(&out[..n], wanted)
+    let written = answer(input, &mut out);
+    check::same(&out[..written.len], wanted)
 }
 
 // Whether the answer to the next record, of len bytes, is the oracle's.

@@ -10,5 +10,7 @@ pub mod LowerTriangle
 pub mod LowerScaled
 pub mod LowerGmw81
 pub mod LowerSe
+pub mod DoubleEntries
+pub mod DoubleRuns
 pub mod Handed
 pub mod Theorem

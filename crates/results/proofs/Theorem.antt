@@ -9,9 +9,7 @@ use Rattle.methods.specs.Se as se
 use Rattle.methods.specs.declared.method.Method.{Method}
 use Rattle.methods.specs.declared.method.Method.the-variants.{Gmw81, Se}
 use Rattle.methods.specs.declared.schnabel_eskow.Tolerances.{Tolerances}
-use Rattle.methods.proofs.GmwLaws.{finish-order}
-use Rattle.methods.proofs.GmwRuns.{steps-permuted, run-is}
-use Rattle.methods.proofs.Pivots.{Permuted}
+use Rattle.methods.proofs.GmwRuns as gmw-runs
 use Rattle.methods.proofs.SeRuns.{run-permuted}
 use Rattle.results.specs.Results.{Sound, ResultsTheorem}
 use Rattle.results.proofs.AmountsGmw81.{amounts-gmw81}
@@ -19,19 +17,17 @@ use Rattle.results.proofs.AmountsLast.{PositiveTolerances, tolerances-p
 use Rattle.results.proofs.AmountsSe.{amounts-se}
 use Rattle.results.proofs.LowerGmw81.{lower-gmw81}
 use Rattle.results.proofs.LowerSe.{lower-se}
+use Rattle.results.proofs.DoubleRuns.{doubles-gmw81, doubles-se}
 use Rattle.results.proofs.Marks.{below-gmw81, below-se}
 use Rattle.results.proofs.Handed.{handed-sound}
-
-permuted-gmw81 : (n : ℕ) (a : List Float) → Permuted n (gmw.run n a .p)
-permuted-gmw81 n a = rw (run-is n a, finish-order n (gmw.stepped n a)) (steps-permuted n _ _ a)
 
 -- for every tolerances above zero
 sound : (t : Tolerances) → PositiveTolerances t → (method : Method) (n : ℕ) (a : List Float) → 0 < n → AcceptedMatrix n a → Sound n (factor method t n a)
 unfolding factor gmw.mod-cholesky-gmw81 se.mod-cholesky-se
 sound t P Gmw81 n a some A = handed-sound n (gmw.run n a .progress) (gmw.run n a .l) (gmw.run n a .e) (gmw.run n a .p)
-    (record { amounts = amounts-gmw81 n a; lower = lower-gmw81 n a A; permuted = permuted-gmw81 n a; marks = below-gmw81 n a })
+    (record { amounts = amounts-gmw81 n a; lower = lower-gmw81 n a A; doubles = doubles-gmw81 n a; permuted = gmw-runs.run-permuted n a; marks = below-gmw81 n a })
 sound t P (Se v) n a some A = handed-sound n (se.run v t n a .progress) _ _ (se.run v t n a .p)
-    (record { amounts = amounts-se v t P n a some; lower = lower-se v t n a A; permuted = run-permuted v t n a; marks = below-se v t n a })
+    (record { amounts = amounts-se v t P n a some; lower = lower-se v t n a A; doubles = λ e. doubles-se v t n a some A; permuted = run-permuted v t n a; marks = below-se v t n a })
 
 pub results : ResultsTheorem
 results = sound tolerances tolerances-positive

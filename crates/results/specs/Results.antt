@@ -1,5 +1,6 @@
 -- Document 01's promises about every result that a run hands back, complete or refused: no amount is negative, p is a permutation,
--- L is finite with +0.0 above the diagonal, and every step that is reported is a step; and every d of GMW81 is at least 2^-52.
+-- L is finite with +0.0 above the diagonal, amounts and entries of L are doubles, and every step that is reported is a step; and every d
+-- that GMW81 stored is at least 2^-52.
 -- Proved as `results` (proofs/Theorem.antt) and `d-results` (proofs/BoundsGmw81.antt).
 use mathlib.Core.Path.{_≡_}
 use mathlib.Core.Bool.{true, false}
@@ -10,6 +11,7 @@ use lib.Ieee.{Float, nan, lt}
 use lib.Ieee.Scale.{finite}
 use Rattle.arithmetic.specs.AtLeast.{AtLeast}
 use Rattle.arithmetic.specs.Double.{plus-zero, epsilon}
+use Rattle.arithmetic.specs.DoubleList.{AllDoubles}
 use Rattle.arithmetic.specs.declared.outcome.Outcome.the-variants.{StoredNotFinite}
 use Rattle.matrix.specs.Matrix.{at}
 use Rattle.methods.specs.AcceptedMatrix.{AcceptedMatrix}
@@ -19,7 +21,8 @@ use Rattle.methods.specs.Factor.{factor, tolerances}
 use Rattle.methods.specs.Gmw81.{run}
 use Rattle.methods.specs.declared.method.Method.{Method}
 use Rattle.methods.specs.declared.decomposition.Decomposition.{Decomposition}
-use Rattle.methods.specs.declared.decomposition.Mark.the-variants.{Never, Step}
+use Rattle.methods.specs.declared.decomposition.Mark.{Mark}
+use Rattle.methods.specs.declared.decomposition.Mark.the-variants.{Step}
 
 -- e[r] is a finite number that is not negative
 pub record Amounts (n : ℕ) (e : List Float) : Type 0 where
@@ -42,6 +45,7 @@ pub record MarksBelow (n : ℕ) (d : Decomposition) : Type 0 where
 pub record Sound (n : ℕ) (r : Result) : Type 0 where
   pub amounts : Amounts n (r .e)
   pub lower : LowerFactor n (r .l)
+  pub doubles : AllDoubles (r .l) × AllDoubles (r .e)
   -- p lists 0 to n - 1, each once, as a load order does
   pub permutation : LoadOrder n (r .p)
   pub marks : MarksBelow n (r .decomposition)
@@ -49,5 +53,10 @@ pub record Sound (n : ℕ) (r : Result) : Type 0 where
 abbrev pub ResultsTheorem : Type 0
 ResultsTheorem = (method : Method) (n : ℕ) (a : List Float) → 0 < n → AcceptedMatrix n a → Sound n (factor method tolerances n a)
 
+-- step j was taken: it is not after the refused step, which stores its values too
+abbrev pub Taken : ℕ → Mark → Type 0
+Taken j refused = (k : ℕ) → refused ≡ Step k → j ≤ k
+
+-- d[j] of every step that was taken, also in a refused run
 abbrev pub DTheorem : Type 0
-DTheorem = (n : ℕ) (a : List Float) → 0 < n → AcceptedMatrix n a → run n a .progress .refused ≡ Never → (j : ℕ) → j < n → AtLeast epsilon (getD (run n a .d) j nan)
+DTheorem = (n : ℕ) (a : List Float) → 0 < n → AcceptedMatrix n a → (j : ℕ) → j < n → Taken j (run n a .progress .refused) → AtLeast epsilon (getD (run n a .d) j nan)

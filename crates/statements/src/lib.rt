@@ -13,7 +13,7 @@ ghost use Rattle.methods.specs.Elimination.{mirrored, swapLeft, swapBetween, sw
 ghost use Rattle.methods.specs.Result.{identity};
 use arithmetic::double::abs;
 use arithmetic::double::finite;
-use arithmetic::sqrt::sqrt;
+use arithmetic::sqrt::sqrt_unchecked;
 use matrix::entries::cell;
 use matrix::entries::get;
 use matrix::entries::put;
@@ -80,8 +80,8 @@ pub fn pivot_matrix(m: &mut [f64], n: usize, j: usize, max_idx: usize)
 {
     if max_idx != 0 {
         let q = j + max_idx;
-        utils::swap_rows(m, n, j, q);
-        utils::swap_columns(m, n, j, q);
+        utils::swap_rows_unchecked(m, n, j, q);
+        utils::swap_columns_unchecked(m, n, j, q);
     }
 }
 
@@ -217,7 +217,7 @@ pub fn eliminate(l: &mut [f64], n: usize, j: usize) -> bool
     requires { ⌜ j < n ⌝ }
     ensures { λ r. ⌜ (mirrored n (now (l .exit)) ≡ eliminate n j (mirrored n (now (l .entry)))) × (r ≡ blockFinite n j (mirrored n (now (l .exit)))) ⌝ }
 {
-    let root = sqrt(get(l, n, j, j));
+    let root = sqrt_unchecked(get(l, n, j, j));
     put(l, n, j, j, root);
     let mut column = [0.0; 48];
     let divided = divide_column(l, n, j, root, &mut column);

@@ -1,12 +1,15 @@
-//! Every exported call but that of records, on operands that it accepts or refuses: what it hands
-//! back and leaves in its buffers, beside the listed Rust's helpers and document 01's checks.
+//! Every exported call but those of records and factorizations, on operands that it accepts or
+//! refuses: what it hands back and leaves in its buffers, beside the listed Rust's helpers and
+//! document 01's checks.
 
 use crate::checks::{self, Checked};
-use crate::operands::{any_bits, area, filling, index, length, list, size};
+use crate::operands::{any_bits, area, cut, doubles, filling, index, length, list, size};
 use crate::port::{self, Refusal};
 use oracle::generate::rng::Rng;
 use oracle::helpers;
+use oracle::record::{bytes, Reply};
 
+#[derive(Clone)]
 pub struct Called {
     pub call: &'static str,
     /// As it should be.
@@ -14,25 +17,36 @@ pub struct Called {
     pub difference: Option<String>,
 }
 
-/// The refusal, and what is handed back or left in buffers, doubles by their bits.
+/// The refusal, and the bytes of what is handed back or left in buffers.
 #[derive(Debug, PartialEq)]
 pub struct Outcome {
     pub refusal: Refusal,
-    pub values: Vec<u64>,
+    pub left: Vec<u8>,
 }
 
-pub const ACCEPTED: Refusal = [0, 0, 0];
+const ACCEPTED: Refusal = [0, 0, 0];
+
+/// The oracle's refusal of a record.
+pub fn refusal(reply: &Reply) -> Refusal {
+    match &reply.outcome {
+        Ok(_) => ACCEPTED,
+        Err(refusal) => {
+            let [row, column] = refusal.place.map(usize::from);
+            [refusal.number.into(), row, column]
+        }
+    }
+}
 
 pub fn called(call: &'static str, port: Outcome, wanted: Outcome) -> Called {
-    let values = || port.values.iter().zip(&wanted.values);
+    let pairs = || port.left.iter().zip(&wanted.left);
     let difference = (port != wanted).then(|| {
-        let at = values().take_while(|(x, y)| x == y).count();
+        let at = pairs().take_while(|(x, y)| x == y).count();
         format!(
-            "{call}: refusal port {:?}, oracle {:?}; value {at}: port {:x?}, oracle {:x?}",
+            "{call}: refusal port {:?}, oracle {:?}; byte {at}: port {:x?}, oracle {:x?}",
             port.refusal,
             wanted.refusal,
-            port.values.get(at),
-            wanted.values.get(at)
+            port.left.get(at),
+            wanted.left.get(at)
         )
     });
     Called {
@@ -42,48 +56,34 @@ pub fn called(call: &'static str, port: Outcome, wanted: Outcome) -> Called {
     }
 }
 
-pub fn bits(list: &[f64]) -> Vec<u64> {
-    list.iter().map(|x| x.to_bits()).collect()
-}
-
-/// A call that hands back `zeros` beside a refusal.
-fn value(result: Result<Vec<u64>, Refusal>, zeros: usize) -> Outcome {
+/// A call that leaves `untouched` beside a refusal.
+fn outcome(result: Result<Vec<u8>, Refusal>, untouched: &[u8]) -> Outcome {
     match result {
-        Ok(values) => Outcome {
+        Ok(left) => Outcome {
             refusal: ACCEPTED,
-            values,
+            left,
         },
         Err(refusal) => Outcome {
             refusal,
-            values: vec![0; zeros],
+            left: untouched.to_vec(),
         },
     }
 }
 
-/// A call that leaves its buffer untouched beside a refusal.
-fn buffer(result: Result<Vec<f64>, Refusal>, before: &[f64]) -> Outcome {
-    match result {
-        Ok(after) => Outcome {
-            refusal: ACCEPTED,
-            values: bits(&after),
-        },
-        Err(refusal) => Outcome {
-            refusal,
-            values: bits(before),
-        },
-    }
+/// A call that hands back a value of so many bytes, beside a refusal zero.
+fn value(result: Result<Vec<u8>, Refusal>, len: usize) -> Outcome {
+    outcome(result, &vec![0; len])
 }
 
 /// Each helper once.
-pub fn helpers(rng: &mut Rng) -> [Called; 10] {
+pub fn helpers(rng: &mut Rng) -> [Called; 9] {
     [
         sqrt(rng),
-        checked_sqrt(rng),
         eigenvalues(rng),
-        search("index_of_largest", false, rng),
-        search("index_of_largest_abs", true, rng),
-        swap("swap_rows", false, rng),
-        swap("swap_columns", true, rng),
+        search("index_of_largest_bytes", false, rng),
+        search("index_of_largest_abs_bytes", true, rng),
+        swap("swap_rows_bytes", false, rng),
+        swap("swap_columns_bytes", true, rng),
         permutation(rng),
         diagonal(rng),
         circles(rng),
@@ -92,25 +92,17 @@ pub fn helpers(rng: &mut Rng) -> [Called; 10] {
 
 fn sqrt(rng: &mut Rng) -> Called {
     let x = list(1, rng)[0];
-    // The bits of a NaN aren't fixed.
-    let number = |y: f64| if y.is_nan() { u64::MAX } else { y.to_bits() };
-    let outcome = |y: f64| value(Ok(vec![number(y)]), 1);
-    called("sqrt", outcome(port::sqrt(x)), outcome(x.sqrt()))
-}
-
-fn checked_sqrt(rng: &mut Rng) -> Called {
-    let x = list(1, rng)[0];
     let checks = || {
         checks::finite_list(&[x])?;
         checks::stored_finite(&[x.sqrt()], 0)?;
-        Ok(bits(&[x.sqrt()]))
+        Ok(bytes(&[x.sqrt()]))
     };
-    let (refusal, root) = port::checked_sqrt(x);
+    let (refusal, root) = port::sqrt(x);
     let port = Outcome {
         refusal,
-        values: bits(&[root]),
+        left: bytes(&[root]),
     };
-    called("checked_sqrt", port, value(checks(), 1))
+    called("sqrt", port, value(checks(), 8))
 }
 
 fn eigenvalues(rng: &mut Rng) -> Called {
@@ -120,14 +112,14 @@ fn eigenvalues(rng: &mut Rng) -> Called {
         checks::finite_matrix(&entries, 2)?;
         let (hi, lo) = helpers::eigenvalues_2x2(block);
         checks::stored_finite(&[hi, lo], 0)?;
-        Ok(bits(&[hi, lo]))
+        Ok(bytes(&[hi, lo]))
     };
     let (refusal, pair) = port::eigenvalues_2x2(block);
     let port = Outcome {
         refusal,
-        values: bits(&pair),
+        left: bytes(&pair),
     };
-    called("eigenvalues_2x2", port, value(checks(), 2))
+    called("eigenvalues_2x2", port, value(checks(), 16))
 }
 
 fn search(call: &'static str, by_magnitude: bool, rng: &mut Rng) -> Called {
@@ -136,39 +128,42 @@ fn search(call: &'static str, by_magnitude: bool, rng: &mut Rng) -> Called {
         1 => 49 + rng.below(200),
         _ => 1 + rng.below(12),
     };
-    let list = list(len, rng);
+    let searched = cut(length(8 * len, rng), |count| list(count, rng));
     let found = |list: &[f64]| match by_magnitude {
         false => helpers::index_of_largest(list),
         true => helpers::index_of_largest_abs(list),
     };
     let checks = || {
-        checks::something_to_search(&list)?;
+        checks::something_to_search(&searched)?;
+        checks::whole_doubles(&searched)?;
+        let list = doubles(&searched);
         checks::finite_list(&list)?;
-        Ok(vec![found(&list) as u64])
+        Ok(found(&list).to_le_bytes().to_vec())
     };
     let (refusal, index) = match by_magnitude {
-        false => port::index_of_largest(&list),
-        true => port::index_of_largest_abs(&list),
+        false => port::index_of_largest(&searched),
+        true => port::index_of_largest_abs(&searched),
     };
     let port = Outcome {
         refusal,
-        values: vec![index as u64],
+        left: index.to_le_bytes().to_vec(),
     };
-    called(call, port, value(checks(), 1))
+    called(call, port, value(checks(), 8))
 }
 
 fn swap(call: &'static str, columns: bool, rng: &mut Rng) -> Called {
     let n = size(rng);
-    let before = any_bits(length(area(n), rng), rng);
+    let before = cut(length(area(n), rng), |count| any_bits(count, rng));
     let (i, j) = (index(n, rng), index(n, rng));
     let checks = || {
         checks::size(n)?;
         checks::matrix_length(&before, n)?;
         checks::indexes(&[i, j], n)?;
-        Ok(match columns {
-            false => helpers::swap_rows(n, &before, i, j),
-            true => helpers::swap_columns(n, &before, i, j),
-        })
+        let matrix = doubles(&before);
+        Ok(bytes(&match columns {
+            false => helpers::swap_rows(n, &matrix, i, j),
+            true => helpers::swap_columns(n, &matrix, i, j),
+        }))
     };
     let mut after = before.clone();
     let refusal = match columns {
@@ -177,79 +172,89 @@ fn swap(call: &'static str, columns: bool, rng: &mut Rng) -> Called {
     };
     let port = Outcome {
         refusal,
-        values: bits(&after),
+        left: after,
     };
-    called(call, port, buffer(checks(), &before))
+    called(call, port, outcome(checks(), &before))
 }
 
 fn permutation(rng: &mut Rng) -> Called {
-    let n = size(rng).min(50);
-    let indexes: Vec<usize> = if rng.coin() {
+    // 257 would be 1 in a byte.
+    let n = size(rng).min(257);
+    let drawn = if rng.coin() {
         rng.permutation(n)
     } else {
         (0..n).map(|_| index(n, rng)).collect()
     };
-    let before = filling(length(n * n, rng));
+    let given: Vec<u8> = drawn.into_iter().map(|i| i.min(255) as u8).collect();
+    let indexes: Vec<usize> = given.iter().map(|&i| i.into()).collect();
+    let before = filling(length(area(n), rng));
     let checks = || {
         checks::size(n)?;
-        checks::buffer_length(before.len(), n * n)?;
+        checks::buffer_length(&before, 8 * n * n)?;
         checks::indexes(&indexes, n)?;
-        Ok(helpers::index_to_permutation_mat(&indexes))
+        Ok(bytes(&helpers::index_to_permutation_mat(&indexes)))
     };
     let mut after = before.clone();
     let port = Outcome {
-        refusal: port::index_to_permutation_mat(&indexes, &mut after),
-        values: bits(&after),
+        refusal: port::index_to_permutation_mat(&given, &mut after),
+        left: after,
     };
-    called("index_to_permutation_mat", port, buffer(checks(), &before))
+    called(
+        "index_to_permutation_mat_bytes",
+        port,
+        outcome(checks(), &before),
+    )
 }
 
 fn diagonal(rng: &mut Rng) -> Called {
-    let n = size(rng).min(50);
-    let list = list(n, rng);
-    let before = filling(length(n * n, rng));
+    let given = cut(length(8 * size(rng).min(50), rng), |count| list(count, rng));
+    let list = doubles(&given);
+    let n = list.len();
+    let before = filling(length(area(n), rng));
     let checks = || {
         checks::size(n)?;
-        checks::buffer_length(before.len(), n * n)?;
+        checks::whole_doubles(&given)?;
+        checks::buffer_length(&before, 8 * n * n)?;
         checks::finite_list(&list)?;
-        Ok(helpers::diag_mat_from_arr(&list))
+        Ok(bytes(&helpers::diag_mat_from_arr(&list)))
     };
     let mut after = before.clone();
     let port = Outcome {
-        refusal: port::diag_mat_from_arr(&list, &mut after),
-        values: bits(&after),
+        refusal: port::diag_mat_from_arr(&given, &mut after),
+        left: after,
     };
-    called("diag_mat_from_arr", port, buffer(checks(), &before))
+    called("diag_mat_from_arr_bytes", port, outcome(checks(), &before))
 }
 
 fn circles(rng: &mut Rng) -> Called {
     let n = size(rng);
-    let matrix = list(length(area(n), rng), rng);
-    let mut centres = filling(length(n.min(50), rng));
-    let mut radii = filling(length(n.min(50), rng));
+    let given = cut(length(area(n), rng), |count| list(count, rng));
+    let matrix = doubles(&given);
+    let mut centres = filling(length(8 * n.min(50), rng));
+    let mut radii = filling(length(8 * n.min(50), rng));
     let before = [&centres[..], &radii].concat();
     let checks = || -> Checked {
         checks::size(n)?;
-        checks::matrix_length(&matrix, n)?;
-        checks::buffer_length(centres.len(), n)?;
-        checks::buffer_length(radii.len(), n)?;
+        checks::matrix_length(&given, n)?;
+        checks::buffer_length(&centres, 8 * n)?;
+        checks::buffer_length(&radii, 8 * n)?;
         checks::finite_matrix(&matrix, n)
     };
     let wanted = match checks() {
-        Err(refusal) => buffer(Err(refusal), &before),
+        Err(refusal) => outcome(Err(refusal), &before),
         Ok(()) => match helpers::gershgorin_circles(n, &matrix) {
             Ok(circles) => {
                 let (centres, radii): (Vec<f64>, Vec<f64>) = circles.into_iter().unzip();
-                buffer(Ok([centres, radii].concat()), &before)
+                outcome(Ok(bytes(&[centres, radii].concat())), &before)
             }
-            Err(row) => buffer(Err([9, row, 0]), &vec![0.0; 2 * n]),
+            Err(row) => outcome(Err([9, row, 0]), &vec![0; 16 * n]),
         },
     };
     let port = Outcome {
-        refusal: port::gershgorin_circles(&matrix, n, &mut centres, &mut radii),
-        values: bits(&[centres, radii].concat()),
+        refusal: port::gershgorin_circles(&given, n, &mut centres, &mut radii),
+        left: [centres, radii].concat(),
     };
-    called("gershgorin_circles", port, wanted)
+    called("gershgorin_circles_bytes", port, wanted)
 }
 
 #[cfg(test)]
@@ -265,17 +270,16 @@ mod tests {
             assert_eq!(called.difference, None);
             seen.insert((called.call, called.refusal));
         }
-        let refusals: [(&str, &[usize]); 10] = [
-            ("sqrt", &[0]),
-            ("checked_sqrt", &[0, 7, 9]),
+        let refusals: [(&str, &[usize]); 9] = [
+            ("sqrt", &[0, 7, 9]),
             ("eigenvalues_2x2", &[0, 7, 9]),
-            ("index_of_largest", &[0, 3, 7]),
-            ("index_of_largest_abs", &[0, 3, 7]),
-            ("swap_rows", &[0, 3, 4, 6]),
-            ("swap_columns", &[0, 3, 4, 6]),
-            ("index_to_permutation_mat", &[0, 3, 5, 6]),
-            ("diag_mat_from_arr", &[0, 3, 5, 7]),
-            ("gershgorin_circles", &[0, 3, 4, 5, 7, 9]),
+            ("index_of_largest_bytes", &[0, 3, 4, 7]),
+            ("index_of_largest_abs_bytes", &[0, 3, 4, 7]),
+            ("swap_rows_bytes", &[0, 3, 4, 6]),
+            ("swap_columns_bytes", &[0, 3, 4, 6]),
+            ("index_to_permutation_mat_bytes", &[0, 3, 5, 6]),
+            ("diag_mat_from_arr_bytes", &[0, 3, 4, 5, 7]),
+            ("gershgorin_circles_bytes", &[0, 3, 4, 5, 7, 9]),
         ];
         let all = refusals
             .iter()
@@ -284,10 +288,10 @@ mod tests {
     }
 
     #[test]
-    fn a_call_differs_by_its_refusal_or_by_one_value() {
-        let outcome = |place: usize, value: u64| Outcome {
+    fn a_call_differs_by_its_refusal_or_by_one_byte() {
+        let outcome = |place: usize, byte: u8| Outcome {
             refusal: [7, place, 0],
-            values: vec![1, value],
+            left: vec![1, byte],
         };
         let difference = |x, y| called("sqrt", x, y).difference;
         assert_eq!(difference(outcome(1, 2), outcome(1, 2)), None);

@@ -22,16 +22,21 @@ pub fn size(n: usize) -> Checked {
     demand((1..=MAX_N).contains(&n), [3, 0, 0])
 }
 
-pub fn something_to_search(list: &[f64]) -> Checked {
+pub fn something_to_search(list: &[u8]) -> Checked {
     demand(!list.is_empty(), [3, 0, 0])
 }
 
-pub fn matrix_length(matrix: &[f64], n: usize) -> Checked {
-    demand(matrix.len() == n * n, [4, 0, 0])
+pub fn whole_doubles(list: &[u8]) -> Checked {
+    demand(list.len() % 8 == 0, [4, 0, 0])
 }
 
-pub fn buffer_length(len: usize, wanted: usize) -> Checked {
-    demand(len == wanted, [5, 0, 0])
+pub fn matrix_length(matrix: &[u8], n: usize) -> Checked {
+    demand(matrix.len() == 8 * n * n, [4, 0, 0])
+}
+
+/// In bytes.
+pub fn buffer_length(buffer: &[u8], wanted: usize) -> Checked {
+    demand(buffer.len() == wanted, [5, 0, 0])
 }
 
 pub fn indexes(list: &[usize], n: usize) -> Checked {

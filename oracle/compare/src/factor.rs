@@ -1,20 +1,20 @@
-//! The call of a factorization on lent buffers.
+//! The two calls of a factorization on lent buffers: on bytes and on doubles.
 
-use crate::calls::{bits, called, Called, Outcome, ACCEPTED};
+use crate::calls::{called, refusal, Called, Outcome};
 use crate::checks::{self, Checked};
-use crate::operands::{filling, not_finite};
-use crate::port::{self, Buffers, Refusal};
+use crate::operands::{doubles, filling, not_finite, other_length};
+use crate::port::{self, Buffers, Factored};
 use oracle::generate::rng::Rng;
 use oracle::generate::Case;
-use oracle::record::Reply;
+use oracle::record::{bytes, Reply};
 
 const NONE: usize = 255;
 
 struct Operands {
     method: usize,
-    a: Vec<f64>,
+    a: Vec<u8>,
     n: usize,
-    lent: Buffers,
+    lent: Buffers<u8, u8>,
 }
 
 impl Operands {
@@ -22,21 +22,39 @@ impl Operands {
         let n = case.n;
         Operands {
             method: case.method.into(),
-            a: case.matrix.clone(),
+            a: bytes(&case.matrix),
             n,
             lent: Buffers {
-                l: filling(n * n),
-                work: filling(n * n),
-                e: filling(n),
+                l: filling(8 * n * n),
+                work: filling(8 * n * n),
+                e: filling(8 * n),
                 p: vec![77; n],
             },
         }
     }
 
-    fn port(&self) -> Outcome {
+    fn on_bytes(&self) -> Outcome {
         let mut lent = self.lent.clone();
-        let (refusal, marks) = port::factor(self.method, &self.a, self.n, &mut lent);
-        outcome(refusal, marks, &lent)
+        let answer = port::factor_bytes(self.method, &self.a, self.n, &mut lent);
+        outcome(answer, &lent)
+    }
+
+    /// Nothing if an operand is no whole number of doubles.
+    fn on_doubles(&self) -> Option<Outcome> {
+        let Buffers { l, work, e, p } = &self.lent;
+        if [&self.a, l, work, e].iter().any(|x| x.len() % 8 != 0) {
+            return None;
+        }
+        let mut lent = Buffers {
+            l: doubles(l),
+            work: doubles(work),
+            e: doubles(e),
+            p: p.iter().map(|&row| row.into()).collect(),
+        };
+        let answer = port::factor_doubles(self.method, &doubles(&self.a), self.n, &mut lent);
+        let Buffers { l, work, e, p } = lent;
+        let (l, work, e) = (bytes(&l), bytes(&work), bytes(&e));
+        Some(outcome(answer, &Buffers { l, work, e, p }))
     }
 
     fn checks(&self) -> Checked {
@@ -44,57 +62,66 @@ impl Operands {
         checks::method(self.method)?;
         checks::size(n)?;
         checks::matrix_length(&self.a, n)?;
-        checks::buffer_length(lent.l.len(), n * n)?;
-        checks::buffer_length(lent.work.len(), n * n)?;
-        checks::buffer_length(lent.e.len(), n)?;
-        checks::buffer_length(lent.p.len(), n)?;
-        checks::finite_matrix(&self.a, n)?;
-        checks::symmetric(&self.a, n)
+        checks::buffer_length(&lent.l, 8 * n * n)?;
+        checks::buffer_length(&lent.work, 8 * n * n)?;
+        checks::buffer_length(&lent.e, 8 * n)?;
+        checks::buffer_length(&lent.p, n)?;
+        let matrix = doubles(&self.a);
+        checks::finite_matrix(&matrix, n)?;
+        checks::symmetric(&matrix, n)
+    }
+
+    /// Both calls beside the same answer.
+    fn called<P: Copy + Into<usize>>(
+        &self,
+        answer: Factored,
+        left: &Buffers<u8, P>,
+    ) -> Vec<Called> {
+        let wanted = || outcome(answer, left);
+        let on_bytes = called("factor_bytes", self.on_bytes(), wanted());
+        let on_doubles = self.on_doubles();
+        let on_doubles = on_doubles.map(|port| called("factor_doubles", port, wanted()));
+        [on_bytes].into_iter().chain(on_doubles).collect()
     }
 }
 
-/// The marks, then the buffers.
-fn outcome(refusal: Refusal, marks: [usize; 2], lent: &Buffers) -> Outcome {
-    let whole = |list: &[usize]| list.iter().map(|&x| x as u64).collect::<Vec<u64>>();
-    let doubles = [&lent.l[..], &lent.work, &lent.e].concat();
+/// The marks, then the buffers, p in whole numbers.
+fn outcome<P: Copy + Into<usize>>((refusal, marks): Factored, lent: &Buffers<u8, P>) -> Outcome {
+    let whole = |list: &[usize]| {
+        list.iter()
+            .flat_map(|x| x.to_le_bytes())
+            .collect::<Vec<u8>>()
+    };
+    let p: Vec<usize> = lent.p.iter().map(|&row| row.into()).collect();
     Outcome {
         refusal,
-        values: [whole(&marks), bits(&doubles), whole(&lent.p)].concat(),
+        left: [&whole(&marks), &lent.l, &lent.work, &lent.e, &whole(&p)[..]].concat(),
     }
 }
 
 /// On the matrix of a run, with the oracle's answer to it.
-pub fn accepted(case: &Case, reply: &Reply) -> Called {
+pub fn accepted(case: &Case, reply: &Reply) -> Vec<Called> {
     let n = case.n;
     let mark = |step: Option<usize>| step.unwrap_or(NONE);
     let marks = [mark(reply.tied), mark(reply.phase_two)];
-    let (refusal, l, e, p) = match &reply.outcome {
-        Ok(answer) => (
-            ACCEPTED,
-            answer.l.clone(),
-            answer.e.clone(),
-            answer.p.clone(),
-        ),
-        Err(refusal) => {
-            let [row, column] = refusal.place.map(usize::from);
-            let place = [refusal.number.into(), row, column];
-            (place, vec![0.0; n * n], vec![0.0; n], (0..n).collect())
-        }
+    let (l, e, p) = match &reply.outcome {
+        Ok(answer) => (bytes(&answer.l), bytes(&answer.e), answer.p.clone()),
+        Err(_) => (vec![0; 8 * n * n], vec![0; 8 * n], (0..n).collect()),
     };
-    let work = vec![0.0; n * n];
-    let wanted = outcome(refusal, marks, &Buffers { l, work, e, p });
-    called("factor", Operands::new(case).port(), wanted)
+    let work = vec![0; 8 * n * n];
+    Operands::new(case).called((refusal(reply), marks), &Buffers { l, work, e, p })
 }
 
 /// With one or two operands changed; nothing if they are accepted all the same.
-pub fn refused(case: &Case, rng: &mut Rng) -> Option<Called> {
+pub fn refused(case: &Case, rng: &mut Rng) -> Vec<Called> {
     let mut operands = Operands::new(case);
     for _ in 0..1 + rng.below(2) {
         change(&mut operands, rng);
     }
-    let refusal = operands.checks().err()?;
-    let wanted = outcome(refusal, [NONE, NONE], &operands.lent);
-    Some(called("factor", operands.port(), wanted))
+    match operands.checks() {
+        Ok(()) => vec![],
+        Err(refusal) => operands.called((refusal, [NONE, NONE]), &operands.lent),
+    }
 }
 
 fn change(operands: &mut Operands, rng: &mut Rng) {
@@ -103,27 +130,49 @@ fn change(operands: &mut Operands, rng: &mut Rng) {
     match rng.below(9) {
         0 => operands.method = rng.pick(&[0, 4, 257, usize::MAX]),
         1 => operands.n = rng.pick(&[0, 49, usize::MAX, n.saturating_sub(1), n.saturating_add(1)]),
-        2 => other_length(&mut operands.a, 0.0, rng),
-        3 => other_length(&mut lent.l, 0.5, rng),
-        4 => other_length(&mut lent.work, 0.5, rng),
-        5 => other_length(&mut lent.e, 0.5, rng),
-        6 => other_length(&mut lent.p, 5, rng),
+        2 => resize(&mut operands.a, 0, rng),
+        3 => resize(&mut lent.l, 5, rng),
+        4 => resize(&mut lent.work, 5, rng),
+        5 => resize(&mut lent.e, 5, rng),
+        6 => resize(&mut lent.p, 5, rng),
         7 => change_entry(&mut operands.a, |_, rng| not_finite(rng), rng),
         _ => change_entry(&mut operands.a, |x, _| -x, rng),
     }
 }
 
-fn other_length<T: Clone>(list: &mut Vec<T>, value: T, rng: &mut Rng) {
-    if rng.coin() {
-        list.push(value);
-    } else {
-        list.pop();
+fn resize(list: &mut Vec<u8>, byte: u8, rng: &mut Rng) {
+    list.resize(other_length(list.len(), rng), byte);
+}
+
+fn change_entry(matrix: &mut [u8], change: impl Fn(f64, &mut Rng) -> f64, rng: &mut Rng) {
+    let at = rng.below((matrix.len() / 8).max(1));
+    if let Some((entry, _)) = matrix[8 * at..].split_first_chunk_mut() {
+        *entry = change(f64::from_le_bytes(*entry), rng).to_le_bytes();
     }
 }
 
-fn change_entry(list: &mut [f64], change: impl Fn(f64, &mut Rng) -> f64, rng: &mut Rng) {
-    let at = rng.below(list.len().max(1));
-    if let Some(entry) = list.get_mut(at) {
-        *entry = change(*entry, rng);
+#[cfg(test)]
+mod tests {
+    use super::*;
+    use crate::draw;
+    use oracle::record::{matrix_record, reply};
+    use std::collections::BTreeSet;
+
+    #[test]
+    fn every_refusal_of_both_calls_occurs() {
+        let mut seen: BTreeSet<(&str, usize)> = BTreeSet::new();
+        for index in 0..1000 {
+            let mut rng = Rng::new(1, index);
+            let case = draw::case(index, &mut rng);
+            let reply = reply(&matrix_record(case.method, case.n as u8, &case.matrix));
+            for called in [accepted(&case, &reply), refused(&case, &mut rng)].concat() {
+                assert_eq!(called.difference, None);
+                seen.insert((called.call, called.refusal));
+            }
+        }
+        let all = ["factor_bytes", "factor_doubles"]
+            .iter()
+            .flat_map(|&call| [0, 2, 3, 4, 5, 7, 8, 9].map(|refusal| (call, refusal)));
+        assert_eq!(seen, all.collect());
     }
 }

@@ -10,6 +10,7 @@ mod last_block;
 mod load_order;
 mod operands;
 mod port;
+mod records;
 mod report;
 mod run;
 

@@ -2,7 +2,7 @@
 //! which parts are alike, and when.
 
 use crate::answer::{read, Answer, NONE};
-use crate::port;
+use crate::records;
 use oracle::generate::Case;
 use oracle::record::matrix_record;
 
@@ -39,7 +39,7 @@ pub fn check(case: &Case, s: &[usize], first: &Answer) -> (Alike, Option<String>
     let matrix = reloaded(case.n, &case.matrix, s);
     let record = matrix_record(case.method, case.n as u8, &matrix);
     let wanted = alike(first);
-    let unlike = match read(&port::record(&record)) {
+    let unlike = match read(&records::answer(&record)) {
         None => Some("no answer record".into()),
         Some(second) => unlike(wanted, s, first, &second).map(str::to_string),
     };

@@ -1,6 +1,7 @@
 //! Operands of the exported calls: mostly accepted, now and then refused.
 
 use oracle::generate::rng::Rng;
+use oracle::record::bytes;
 
 pub fn size(rng: &mut Rng) -> usize {
     match rng.below(32) {
@@ -13,21 +14,31 @@ pub fn size(rng: &mut Rng) -> usize {
     }
 }
 
-/// n * n, or some number where n is refused.
+/// The bytes of n * n doubles, or some number where n is refused.
 pub fn area(n: usize) -> usize {
     if n <= 49 {
-        n * n
+        8 * n * n
     } else {
-        4
+        32
     }
 }
 
+/// A number of bytes, mostly the one wanted.
 pub fn length(wanted: usize, rng: &mut Rng) -> usize {
-    match rng.below(32) {
+    match rng.below(8) {
+        0 => other_length(wanted, rng),
+        _ => wanted,
+    }
+}
+
+/// A byte or a double more or less, or nothing.
+pub fn other_length(wanted: usize, rng: &mut Rng) -> usize {
+    match rng.below(5) {
         0 => wanted + 1,
         1 => wanted.saturating_sub(1),
-        2 => 0,
-        _ => wanted,
+        2 => wanted + 8,
+        3 => wanted.saturating_sub(8),
+        _ => 0,
     }
 }
 
@@ -37,6 +48,19 @@ pub fn index(n: usize, rng: &mut Rng) -> usize {
         1 => usize::MAX,
         _ => rng.below(n.clamp(1, 48)),
     }
+}
+
+/// So many bytes of doubles: the last one may be cut.
+pub fn cut(len: usize, doubles: impl FnOnce(usize) -> Vec<f64>) -> Vec<u8> {
+    let mut list = bytes(&doubles(len.div_ceil(8)));
+    list.truncate(len);
+    list
+}
+
+/// The whole doubles.
+pub fn doubles(bytes: &[u8]) -> Vec<f64> {
+    let double = |chunk: &[u8]| f64::from_le_bytes(chunk.try_into().expect("chunks have 8 bytes"));
+    bytes.chunks_exact(8).map(double).collect()
 }
 
 /// Of one sort or of all, and now and then with an infinity or NaN.
@@ -61,11 +85,10 @@ pub fn any_bits(len: usize, rng: &mut Rng) -> Vec<f64> {
     (0..len).map(|_| entry()).collect()
 }
 
-/// What a buffer has before a call.
-pub fn filling(len: usize) -> Vec<f64> {
-    (0..len)
-        .map(|i| f64::from_bits(0x7ff4 << 48 | i as u64))
-        .collect()
+/// What a buffer of so many bytes has before a call: NaNs.
+pub fn filling(len: usize) -> Vec<u8> {
+    let nan = |i: usize| f64::from_bits(0x7ff4 << 48 | i as u64);
+    cut(len, |count| (0..count).map(nan).collect())
 }
 
 const SORTS: usize = 7;

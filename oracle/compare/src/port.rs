@@ -1,4 +1,4 @@
-//! The port's exported calls on slices. A call lent buffers writes to them.
+//! The port's exported calls on slices of bytes. A call lent buffers writes to them.
 
 #[path = "../../../bindings/rust/src/ffi.rs"]
 mod ffi;
@@ -7,33 +7,38 @@ mod ffi;
 pub type Refusal = [usize; 3];
 
 /// The bytes of the longest answer record.
-const LONGEST_ANSWER: usize = 18_885;
+pub const LONGEST_ANSWER: usize = 18_885;
 
 fn refusal(r: ffi::Refusal) -> Refusal {
     [r.number, r.row, r.column]
 }
 
-pub fn record(record: &[u8]) -> Vec<u8> {
-    let mut answer = vec![0xaa; LONGEST_ANSWER];
+/// The refusal, and the length of the answer record.
+pub fn record(record: &[u8], answer: &mut [u8]) -> (Refusal, usize) {
     let (at, len) = (answer.as_mut_ptr(), answer.len());
     let written = unsafe { ffi::millracer_record(record.as_ptr(), record.len(), at, len) };
-    answer.truncate(written);
-    answer
+    (refusal(written.refusal), written.length)
 }
 
-/// The buffers lent to a factorization.
+/// The buffers lent to a factorization: T has an entry, P a row.
 #[derive(Clone)]
-pub struct Buffers {
-    pub l: Vec<f64>,
-    pub work: Vec<f64>,
-    pub e: Vec<f64>,
-    pub p: Vec<usize>,
+pub struct Buffers<T, P> {
+    pub l: Vec<T>,
+    pub work: Vec<T>,
+    pub e: Vec<T>,
+    pub p: Vec<P>,
 }
 
 /// The refusal, then the tied and the phase-two step, 255 for none.
-pub fn factor(method: usize, a: &[f64], n: usize, lent: &mut Buffers) -> (Refusal, [usize; 2]) {
-    let answer = unsafe {
-        ffi::millracer_factor(
+pub type Factored = (Refusal, [usize; 2]);
+
+fn factored(answer: ffi::Factorization) -> Factored {
+    (refusal(answer.refusal), [answer.tied, answer.phase2])
+}
+
+pub fn factor_bytes(method: usize, a: &[u8], n: usize, lent: &mut Buffers<u8, u8>) -> Factored {
+    factored(unsafe {
+        ffi::millracer_factor_bytes(
             method,
             a.as_ptr(),
             a.len(),
@@ -47,16 +52,35 @@ pub fn factor(method: usize, a: &[f64], n: usize, lent: &mut Buffers) -> (Refusa
             lent.p.as_mut_ptr(),
             lent.p.len(),
         )
-    };
-    (refusal(answer.refusal), [answer.tied, answer.phase2])
+    })
 }
 
-pub fn sqrt(x: f64) -> f64 {
-    unsafe { ffi::millracer_sqrt(x) }
+pub fn factor_doubles(
+    method: usize,
+    a: &[f64],
+    n: usize,
+    lent: &mut Buffers<f64, usize>,
+) -> Factored {
+    factored(unsafe {
+        ffi::millracer_factor_doubles(
+            method,
+            a.as_ptr(),
+            a.len(),
+            n,
+            lent.l.as_mut_ptr(),
+            lent.l.len(),
+            lent.work.as_mut_ptr(),
+            lent.work.len(),
+            lent.e.as_mut_ptr(),
+            lent.e.len(),
+            lent.p.as_mut_ptr(),
+            lent.p.len(),
+        )
+    })
 }
 
-pub fn checked_sqrt(x: f64) -> (Refusal, f64) {
-    let answer = unsafe { ffi::millracer_checked_sqrt(x) };
+pub fn sqrt(x: f64) -> (Refusal, f64) {
+    let answer = unsafe { ffi::millracer_sqrt(x) };
     (refusal(answer.refusal), answer.value)
 }
 
@@ -65,44 +89,40 @@ pub fn eigenvalues_2x2([[a, b], [c, d]]: [[f64; 2]; 2]) -> (Refusal, [f64; 2]) {
     (refusal(answer.refusal), [answer.hi, answer.lo])
 }
 
-pub fn index_of_largest(c: &[f64]) -> (Refusal, usize) {
-    let answer = unsafe { ffi::millracer_index_of_largest(c.as_ptr(), c.len()) };
+pub fn index_of_largest(c: &[u8]) -> (Refusal, usize) {
+    let answer = unsafe { ffi::millracer_index_of_largest_bytes(c.as_ptr(), c.len()) };
     (refusal(answer.refusal), answer.index)
 }
 
-pub fn index_of_largest_abs(c: &[f64]) -> (Refusal, usize) {
-    let answer = unsafe { ffi::millracer_index_of_largest_abs(c.as_ptr(), c.len()) };
+pub fn index_of_largest_abs(c: &[u8]) -> (Refusal, usize) {
+    let answer = unsafe { ffi::millracer_index_of_largest_abs_bytes(c.as_ptr(), c.len()) };
     (refusal(answer.refusal), answer.index)
 }
 
-pub fn swap_rows(mat: &mut [f64], n: usize, idx1: usize, idx2: usize) -> Refusal {
+pub fn swap_rows(mat: &mut [u8], n: usize, idx1: usize, idx2: usize) -> Refusal {
     let (at, len) = (mat.as_mut_ptr(), mat.len());
-    refusal(unsafe { ffi::millracer_swap_rows(at, len, n, idx1, idx2) })
+    refusal(unsafe { ffi::millracer_swap_rows_bytes(at, len, n, idx1, idx2) })
 }
 
-pub fn swap_columns(mat: &mut [f64], n: usize, idx1: usize, idx2: usize) -> Refusal {
+pub fn swap_columns(mat: &mut [u8], n: usize, idx1: usize, idx2: usize) -> Refusal {
     let (at, len) = (mat.as_mut_ptr(), mat.len());
-    refusal(unsafe { ffi::millracer_swap_columns(at, len, n, idx1, idx2) })
+    refusal(unsafe { ffi::millracer_swap_columns_bytes(at, len, n, idx1, idx2) })
 }
 
-pub fn index_to_permutation_mat(idxs: &[usize], mat: &mut [f64]) -> Refusal {
+pub fn index_to_permutation_mat(idxs: &[u8], mat: &mut [u8]) -> Refusal {
+    let (from, count) = (idxs.as_ptr(), idxs.len());
     let (at, len) = (mat.as_mut_ptr(), mat.len());
-    refusal(unsafe { ffi::millracer_index_to_permutation_mat(idxs.as_ptr(), idxs.len(), at, len) })
+    refusal(unsafe { ffi::millracer_index_to_permutation_mat_bytes(from, count, at, len) })
 }
 
-pub fn diag_mat_from_arr(arr: &[f64], mat: &mut [f64]) -> Refusal {
+pub fn diag_mat_from_arr(arr: &[u8], mat: &mut [u8]) -> Refusal {
     let (at, len) = (mat.as_mut_ptr(), mat.len());
-    refusal(unsafe { ffi::millracer_diag_mat_from_arr(arr.as_ptr(), arr.len(), at, len) })
+    refusal(unsafe { ffi::millracer_diag_mat_from_arr_bytes(arr.as_ptr(), arr.len(), at, len) })
 }
 
-pub fn gershgorin_circles(
-    mat: &[f64],
-    n: usize,
-    centres: &mut [f64],
-    radii: &mut [f64],
-) -> Refusal {
+pub fn gershgorin_circles(mat: &[u8], n: usize, centres: &mut [u8], radii: &mut [u8]) -> Refusal {
     refusal(unsafe {
-        ffi::millracer_gershgorin_circles(
+        ffi::millracer_gershgorin_circles_bytes(
             mat.as_ptr(),
             mat.len(),
             n,

@@ -1,7 +1,8 @@
 //! A comparison, index by index.
 
+use crate::calls::Called;
 use crate::report::Report;
-use crate::{answer, broken, calls, draw, factor, last_block, load_order, port};
+use crate::{answer, broken, calls, draw, factor, last_block, load_order, records};
 use oracle::generate::rng::Rng;
 use oracle::generate::Case;
 use oracle::record::{matrix_record, reply, Reply};
@@ -45,24 +46,17 @@ fn compare_one(seed: u64, index: u64, report: &mut Report) -> Vec<String> {
 
 fn factorization(case: &Case, rng: &mut Rng, report: &mut Report) -> Vec<String> {
     let record = matrix_record(case.method, case.n as u8, &case.matrix);
-    let port = port::record(&record);
     let mut found = Vec::new();
     match answered(&record) {
         None => found.push("the oracle panicked".to_string()),
         Some(reply) => {
             report.run(case, &reply);
-            found.extend(answer::difference(&port, &reply.record()));
-            for called in [
-                Some(factor::accepted(case, &reply)),
-                factor::refused(case, rng),
-            ] {
-                let Some(called) = called else { continue };
-                report.call(&called);
-                found.extend(called.difference);
-            }
+            found.extend(noted(records::calls(&record, &reply, rng), report));
+            found.extend(noted(factor::accepted(case, &reply), report));
+            found.extend(noted(factor::refused(case, rng), report));
         }
     }
-    if let Some(first) = answer::read(&port) {
+    if let Some(first) = answer::read(&records::answer(&record)) {
         let (alike, unlike) = load_order::check(case, &rng.permutation(case.n), &first);
         report.pair(alike);
         found.extend(unlike);
@@ -75,13 +69,19 @@ fn answered(record: &[u8]) -> Option<Reply> {
     catch_unwind(|| reply(record)).ok()
 }
 
+/// The differences.
+fn noted(made: impl IntoIterator<Item = Called>, report: &mut Report) -> Vec<String> {
+    let noted = made.into_iter().inspect(|called| report.call(called));
+    noted.filter_map(|called| called.difference).collect()
+}
+
 /// By both methods, where one is found.
 fn last_block(rng: &mut Rng, report: &mut Report) -> Vec<String> {
     let mut found = Vec::new();
     if let Some(block) = last_block::search(rng) {
         for method in [SE90, SE99] {
-            let record = matrix_record(method, 2, &block);
-            found.extend(record_difference(&record, |_| report.last_block()));
+            report.last_block();
+            found.extend(record(&matrix_record(method, 2, &block), rng, report).1);
         }
     }
     found
@@ -91,28 +91,28 @@ fn last_block(rng: &mut Rng, report: &mut Report) -> Vec<String> {
 }
 
 fn broken_record(rng: &mut Rng, report: &mut Report) -> Vec<String> {
-    let record = broken::record(rng);
-    let found = record_difference(&record, |reply| report.broken(reply.refusal()));
-    let said = |words: String| format!("broken record of {} bytes: {words}", record.len());
-    found.map(said).into_iter().collect()
+    let broken = broken::record(rng);
+    let (reply, found) = record(&broken, rng, report);
+    if let Some(reply) = reply {
+        report.broken(reply.refusal());
+    }
+    let said = |words: String| format!("broken record of {} bytes: {words}", broken.len());
+    found.into_iter().map(said).collect()
 }
 
-/// `note` gets the oracle's answer.
-fn record_difference(record: &[u8], note: impl FnOnce(&Reply)) -> Option<String> {
-    let Some(reply) = answered(record) else {
-        return Some("the oracle panicked".into());
-    };
-    note(&reply);
-    answer::difference(&port::record(record), &reply.record())
+/// The oracle's answer, and the differences.
+fn record(record: &[u8], rng: &mut Rng, report: &mut Report) -> (Option<Reply>, Vec<String>) {
+    match answered(record) {
+        None => (None, vec!["the oracle panicked".into()]),
+        Some(reply) => {
+            let found = noted(records::calls(record, &reply, rng), report);
+            (Some(reply), found)
+        }
+    }
 }
 
 fn helpers(rng: &mut Rng, report: &mut Report) -> Vec<String> {
-    let mut found = Vec::new();
-    for called in calls::helpers(rng) {
-        report.call(&called);
-        found.extend(called.difference);
-    }
-    found
+    noted(calls::helpers(rng), report)
 }
 
 #[cfg(test)]

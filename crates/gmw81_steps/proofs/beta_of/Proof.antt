@@ -14,7 +14,7 @@ int-to-float-square c = let h : c .before .args .n ≤ 48 = c .before .pre in le
 
 returns : tie.Need-returns
 unfolding betaOf count
-returns c = rw (c .sqrt2 .ensures, c .before .max2 .ensures, c .before .before .max .ensures, c .before .before .before .sqrt .ensures, c .before .before .before .before .square .ensures)
+returns c = rw (c .sqrt-unchecked2 .ensures, c .before .max2 .ensures, c .before .before .max .ensures, c .before .before .before .sqrt-unchecked .ensures, c .before .before .before .before .square .ensures)
 
 pub beta-of-spec : {M : Type 1} → statement M
 beta-of-spec = tie.close (tie.spec int-to-float-square (λ c κs. search needs) (λ c κs. search needs) (λ c κs. search needs) (λ c κs. search needs) (λ c κs. search needs) returns)

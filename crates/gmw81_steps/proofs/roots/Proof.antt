@@ -16,7 +16,7 @@ abbrev μ-loop : tie.MeasureT-loop
 μ-loop d₀ n i₀ d i = n - i
 
 loop-again : tie.Need-loop-again Inv-loop μ-loop
-loop-again c = let s = c .before .before .before .loop in filling-turn (s .inv) (search needs) (omega arith) (rw (c .sqrt .ensures, s .inv .rest (s .i) (omega arith)))
+loop-again c = let s = c .before .before .before .loop in filling-turn (s .inv) (search needs) (omega arith) (rw (c .sqrt-unchecked .ensures, s .inv .rest (s .i) (omega arith)))
 
 pub roots-spec : {M : Type 1} → statement M
 roots-spec = tie.close (tie.spec Inv-loop μ-loop (λ c. search fillings) (search needs) (search needs) (search needs) (search needs) (search needs) (search needs) (search needs) loop-again (search needs) (λ c. search fillings))

@@ -8,7 +8,7 @@ returns : tie.Need-returns
 returns c =
     let s = c .before .before in
     let r = s .before .before .before .before in
-    matrix-pivoted _ _ _ _ _ _ (r .before .before .if1 .taken) (r .swap-rows .ensures) (s .swap-columns .ensures)
+    matrix-pivoted _ _ _ _ _ _ (r .before .before .if1 .taken) (r .swap-rows-unchecked .ensures) (s .swap-columns-unchecked .ensures)
 
 returns-2 : tie.Need-returns-2
 returns-2 c = matrix-kept _ _ _ _ (c .if1 .left)

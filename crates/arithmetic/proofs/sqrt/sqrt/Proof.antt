@@ -1,35 +1,22 @@
 -- `sqrt::sqrt` meets its contract.
 use borrow.Author.Needs.{needs}
-use mathlib.Core.Path.{_∙_}
-use lib.Ieee.{ofBits, div}
-use Rattle.arithmetic.proofs.Operand.{zero-value, negative-value, rest-value}
-use Rattle.arithmetic.proofs.Stages.{zero-root, negative-root, positive-rest, other-root, joined}
+use mathlib.Core.Path.{sym}
+use Rattle.arithmetic.specs.Outcome.{_then_}
+use Rattle.arithmetic.specs.Sqrt.{sqrt-call}
 use Rattle.arithmetic.proofs.sqrt.sqrt.Statement.{statement}
 use Rattle.arithmetic.proofs.sqrt.sqrt.Tie as tie
 
 returns : tie.Need-returns
-returns c = zero-root (zero-value (c .before .args .x) (c .if1 .taken))
+unfolding sqrt-call _then_
+returns c = rw (sym (c .before .finite .ensures), c .if1 .taken)
 
 returns-2 : tie.Need-returns-2
-unfolding ofBits div
-returns-2 c = negative-root (negative-value (c .before .before .args .x) (c .if2 .taken))
-
-split-requires : tie.Need-split-requires
-unfolding ofBits div
-split-requires c κs =
-    positive-rest (rest-value (c .before .before .before .args .x) (c .before .if2 .left) (c .before .before .if1 .left)) (c .if3 .taken)
+unfolding sqrt-call _then_
+returns-2 c = rw (sym (c .before .before .finite .ensures), c .before .if1 .left, c .if2 .taken)
 
 returns-3 : tie.Need-returns-3
-returns-3 c =
-    let t = c .before .before .before in
-    let n = c .before .before .split in
-    let w = c .before .unrounded in
-    c .round .ensures
-    ∙ joined (t .before .before .before .args .x) (n .result .significand) (n .result .exponent) (w .result .whole) (w .result .cut) (w .result .scale) (split-requires t tt) (n .ensures) (w .ensures)
-
-returns-4 : tie.Need-returns-4
-unfolding ofBits div
-returns-4 c = other-root (rest-value (c .before .before .before .args .x) (c .before .if2 .left) (c .before .before .if1 .left)) (c .if3 .left)
+unfolding sqrt-call _then_
+returns-3 c = rw (sym (c .before .before .before .finite .ensures), c .before .before .if1 .left, c .before .if2 .left, c .sqrt-unchecked .ensures)
 
 pub sqrt-spec : {M : Type 1} → statement M
-sqrt-spec = tie.close (tie.spec returns returns-2 split-requires (λ c κs. search needs) (λ c κs. search needs) returns-3 returns-4)
+sqrt-spec = tie.close (tie.spec (λ c κs. search needs) returns returns-2 (λ c κs. search needs) returns-3)

@@ -4,7 +4,7 @@ use Rattle.exports.proofs.helpers.millracer_eigenvalues_2x2.Statement.{
 use Rattle.exports.proofs.helpers.millracer_eigenvalues_2x2.Tie as tie
 
 returns : tie.Need-returns
-returns c = rw (c .of .ensures, c .before .checked-eigenvalues-2x2 .ensures)
+returns c = rw (c .of .ensures, c .before .eigenvalues-2x2 .ensures)
 
 pub millracer-eigenvalues-2x2-spec : {M : Type 1} → statement M
 millracer-eigenvalues-2x2-spec =

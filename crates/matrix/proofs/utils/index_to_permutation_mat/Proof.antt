@@ -1,44 +1,18 @@
--- `utils::index_to_permutation_mat` meets its contract.
-use mathlib.Core.List.{List}
-use mathlib.Core.Path.{_≡_, refl}
-use Prim.Native.Nat.{ℕ, _*_, _-_, _≤_, zero-le}
+-- `index_to_permutation_mat` meets its contract: written where its checks pass, untouched else.
 use borrow.Author.Needs.{needs}
-use lib.Ieee.{Float}
-use lib.ListN.{length}
-use Rattle.arithmetic.specs.Loop.{range}
-use Rattle.arithmetic.proofs.LoopLaws.{loop-start, loop-turn, loop-end}
-use Rattle.matrix.specs.Matrix.{zeros}
-use Rattle.matrix.specs.Plain.{putOne, index-to-permutation-mat}
+use Rattle.matrix.proofs.CheckLaws.{complete-accepted}
+use Rattle.matrix.proofs.CallLaws.{permutation-accepted, matrix-written, matrix-untouched}
 use Rattle.matrix.proofs.utils.index_to_permutation_mat.Statement.{statement}
 use Rattle.matrix.proofs.utils.index_to_permutation_mat.Tie as tie
 
-abbrev Inv-loop : tie.InvT-loop
-Inv-loop idxs mat₀ n i₀ mat i = (i ≤ n) × (length mat ≡ length mat₀) × (mat ≡ range 0 i (putOne idxs) mat₀)
+index-to-permutation-mat-unchecked-requires : tie.Need-index-to-permutation-mat-unchecked-requires
+index-to-permutation-mat-unchecked-requires c κs = permutation-accepted _ _ (complete-accepted (c .before .before .before .permutation-checks .ensures) (c .before .before .complete .ensures) (c .before .if1 .taken))
 
-abbrev μ-loop : tie.MeasureT-loop
-μ-loop idxs mat₀ n i₀ mat i = n - i
+returns : tie.Need-returns
+returns c = matrix-written (c .before .before .before .before .before .before .permutation-checks .ensures) (c .before .before .before .before .before .complete .ensures) _ _ _ (c .before .before .before .before .if1 .taken) (c .before .before .index-to-permutation-mat-unchecked .ensures)
 
-loop-holds : tie.Need-loop-holds Inv-loop μ-loop
-loop-holds c = (search needs, refl, loop-start _ _ _)
-
-put-requires : tie.Need-put-requires Inv-loop μ-loop
-put-requires c κs =
-    let s = c .before .before .before .before .before .before .before .before .before .before in
-    (search needs, (c .before .before .loop-test .taken, s .pre .1 _ (c .before .before .loop-test .taken)))
-
-loop-again : tie.Need-loop-again Inv-loop μ-loop
-unfolding putOne
-loop-again c = (search needs, search needs, loop-turn 0 _ _ _ _ _ zero-le (c .before .before .before .before .before .before .loop .inv .2) (c .before .before .put .ensures))
-
-from-zeros : (idxs : List ℕ) (cleared mat : List Float) (k : ℕ) → k ≡ length idxs * length idxs → cleared ≡ zeros k → mat ≡ range 0 (length idxs) (putOne idxs) cleared → mat ≡ index-to-permutation-mat idxs
-unfolding index-to-permutation-mat
-from-zeros idxs cleared mat k l z h = rw (z, l) at h
-
-returns : tie.Need-returns Inv-loop μ-loop
-returns c =
-    let s = c .before .before .before .before .before .before .before .before in
-    from-zeros (s .args .idxs .now) _ _ _ (s .pre .0 .len) (c .before .before .before .before .clear .ensures)
-    (loop-end 0 _ _ _ _ _ (c .before .loop .inv .0) (search needs) (c .before .loop .inv .2))
+returns-2 : tie.Need-returns-2
+returns-2 c = matrix-untouched (c .before .before .permutation-checks .ensures) (c .before .complete .ensures) _ _ (c .if1 .left)
 
 pub index-to-permutation-mat-spec : {M : Type 1} → statement M
-index-to-permutation-mat-spec = tie.close (tie.spec Inv-loop μ-loop (λ c κs. search needs) loop-holds (λ c. search needs) (λ c. search needs) put-requires (λ c. search needs) (λ c. search needs) loop-again (λ c. search needs) returns)
+index-to-permutation-mat-spec = tie.close (tie.spec (search needs) (search needs) index-to-permutation-mat-unchecked-requires (search needs) returns returns-2)

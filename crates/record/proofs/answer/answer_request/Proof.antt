@@ -13,31 +13,31 @@ use Rattle.record.proofs.Accepted.{request-accepted}
 use Rattle.record.proofs.answer.answer_request.Statement.{statement}
 use Rattle.record.proofs.answer.answer_request.Tie as tie
 
-small : (r : Request) (entries : List ℕ) → complete (request-checks r entries) ≡ true → (r .size ≤ 48) × (r .size * r .size ≤ 2304)
-small r entries h = let s = request-accepted r entries (record { is = h }) .0 .square .small in (s, square-small (r .size) s)
+small : (r : Request) (room : ℕ) (entries : List ℕ) → complete (request-checks r room entries) ≡ true → (r .size ≤ 48) × (r .size * r .size ≤ 2304)
+small r room entries h = let s = request-accepted r room entries (record { is = h }) .0 .square .small in (s, square-small (r .size) s)
 
 mul-m : tie.Need-mul-m
-mul-m c = omega (arith, small _ _ (c .before .before .pre .0) .1)
+mul-m c = omega (arith, small _ _ _ (c .before .before .pre) .1)
 
 part-a-end : tie.Need-part-a-end
-part-a-end c = small _ _ (c .before .before .before .pre .0) .1
+part-a-end c = small _ _ _ (c .before .before .before .pre) .1
 
 part-l-end : tie.Need-part-l-end
-part-l-end c = small _ _ (c .before .before .before .before .pre .0) .1
+part-l-end c = small _ _ _ (c .before .before .before .before .pre) .1
 
 part-work-end : tie.Need-part-work-end
-part-work-end c = small _ _ (c .before .before .before .before .before .pre .0) .1
+part-work-end c = small _ _ _ (c .before .before .before .before .before .pre) .1
 
 part-e-end : tie.Need-part-e-end
-part-e-end c = small _ _ (c .before .before .before .before .before .before .pre .0) .0
+part-e-end c = small _ _ _ (c .before .before .before .before .before .before .pre) .0
 
 part-p-end : tie.Need-part-p-end
-part-p-end c = small _ _ (c .before .before .before .before .before .before .before .pre .0) .0
+part-p-end c = small _ _ _ (c .before .before .before .before .before .before .before .pre) .0
 
 answer-entries-requires : tie.Need-answer-entries-requires
 answer-entries-requires c κs =
     let s = c .before .before .before .before .before .before .before .before in
-    (s .pre .0, (s .pre .1, (omega (arith, c .before .before .before .before .a .given), omega (arith, c .before .before .before .l .given), omega (arith, c .before .before .work .given), omega (arith, c .before .e .given), omega (arith, c .p .given))))
+    (s .pre, (omega (arith, c .before .before .before .before .a .given), omega (arith, c .before .before .before .l .given), omega (arith, c .before .before .work .given), omega (arith, c .before .e .given), omega (arith, c .p .given)))
 
 pub answer-request-spec : {M : Type 1} → statement M
 answer-request-spec = tie.close (tie.spec mul-m (search needs) (search needs) part-a-end (search needs) (search needs) part-l-end (search needs) (search needs) part-work-end (search needs) (search needs) part-e-end (search needs) (search needs) part-p-end answer-entries-requires (search needs) (λ c. search needs))

@@ -1,6 +1,6 @@
 -- `write_doubles_field` meets its contract: a header and doubles.
 use borrow.Author.Needs.{needs}
-use Rattle.record.proofs.ByteLaws.{length-content}
+use Rattle.encoding.proofs.ByteLaws.{length-content}
 use Rattle.record.proofs.WriteFields.{field-written}
 use native.Mathlib.Omega.{arith}
 use Rattle.record.proofs.write.write_doubles_field.Statement.{statement}

@@ -1,0 +1,55 @@
+-- What the factorization on bytes answers: its decomposition and all four buffers.
+use mathlib.Core.List.{List}
+use mathlib.Core.Bool.{cond}
+use Prim.Native.Nat.{ℕ, _*_}
+use lib.ListN.{length}
+use Rattle.arithmetic.specs.Outcome.{complete, _then_}
+use Rattle.arithmetic.specs.declared.outcome.Outcome.{Outcome}
+use Rattle.matrix.specs.Matrix.{zeros}
+use Rattle.matrix.specs.Checks.{check-size, check-buffer, check-finite, check-symmetric}
+use Rattle.methods.specs.Calls.{check-method, methodOf}
+use Rattle.methods.specs.Factor.{factor, tolerances}
+use Rattle.methods.specs.Result.{Result}
+use Rattle.methods.specs.declared.decomposition.Decomposition.{Decomposition}
+use Rattle.methods.specs.declared.decomposition.Mark.the-variants.{Never}
+use Rattle.encoding.specs.Bytes.{doubles, doubleBytes}
+use Rattle.encoding.specs.Checks.{check-entries}
+
+pub record BytesCall : Type 0 where
+  pub decomposition : Decomposition
+  pub l : List ℕ
+  pub work : List ℕ
+  pub e : List ℕ
+  pub p : List ℕ
+
+abbrev pub bytesCall : Decomposition → List ℕ → List ℕ → List ℕ → List ℕ → BytesCall
+bytesCall decomposition l work e p = record { decomposition = decomposition; l = l; work = work; e = e; p = p }
+
+-- 2, 3, 4, 5, on the lengths in bytes
+unfoldable pub operand-byte-checks : ℕ → ℕ → ℕ → ℕ → ℕ → ℕ → ℕ → Outcome
+operand-byte-checks method n a l work e p =
+    check-method method then check-size n then check-entries n a then check-buffer (8 * (n * n)) l then check-buffer (8 * (n * n)) work then check-buffer (8 * n) e then check-buffer n p
+
+-- .. then 7, on bytes
+unfoldable pub entry-byte-checks : ℕ → ℕ → List ℕ → ℕ → ℕ → ℕ → ℕ → Outcome
+unfolding operand-byte-checks
+entry-byte-checks method n a l work e p = operand-byte-checks method n (length a) l work e p then check-finite n (doubles a)
+
+-- .. then 8
+unfoldable pub factor-byte-checks : ℕ → ℕ → List ℕ → ℕ → ℕ → ℕ → ℕ → Outcome
+unfolding entry-byte-checks
+factor-byte-checks method n a l work e p = entry-byte-checks method n a l work e p then check-symmetric n (doubles a)
+
+-- refused before the first step: no marks, every buffer untouched
+abbrev pub untouchedBytes : Outcome → List ℕ → List ℕ → List ℕ → List ℕ → BytesCall
+untouchedBytes outcome l work e p = bytesCall (record { outcome = outcome; tied = Never; phase2 = Never }) l work e p
+
+-- after a run the work buffer is +0.0 throughout
+abbrev pub answeredBytes : ℕ → Result → BytesCall
+answeredBytes n r = bytesCall (r .decomposition) (doubleBytes (r .l)) (doubleBytes (zeros (n * n))) (doubleBytes (r .e)) (r .p)
+
+unfoldable pub factor-bytes-call : ℕ → ℕ → List ℕ → List ℕ → List ℕ → List ℕ → List ℕ → BytesCall
+unfolding factor-byte-checks factor doubleBytes
+factor-bytes-call method n a l work e p =
+    let checks = factor-byte-checks method n a (length l) (length work) (length e) (length p) in
+    cond (complete checks) (answeredBytes n (factor (methodOf method) tolerances n (doubles a))) (untouchedBytes checks l work e p)

@@ -1,0 +1,4 @@
+pub mod SwappedBytes
+pub mod PlainBytes
+pub mod Accepted
+pub mod CircleBytes

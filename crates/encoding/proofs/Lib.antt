@@ -1,0 +1,9 @@
+pub mod Numbers
+pub mod Doubles
+pub mod ByteLaws
+pub mod Content
+pub mod Over
+pub mod WriteLaws
+pub mod Elements
+pub mod Rewritten
+pub mod Checked

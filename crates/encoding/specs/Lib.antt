@@ -1,0 +1,4 @@
+pub mod Bytes
+pub mod Writing
+pub mod Checks
+pub mod Elements

@@ -1,0 +1,96 @@
+// The checks made on bytes, in the order of their refusals' numbers: eight bytes for each double.
+ghost use mathlib.Core.Path.{_≡_};
+ghost use Prim.Native.Nat.{_*_};
+ghost use lib.Ieee.{binary64, ofBits};
+ghost use lib.Ieee.Scale.{finite};
+ghost use Rattle.matrix.specs.Checks.{check-buffer, check-indices, check-finite, firstNotFinite};
+ghost use Rattle.encoding.specs.Bytes.{doubles};
+ghost use Rattle.encoding.specs.Checks.{check-whole, check-entries};
+use crate::read::read_number;
+use crate::read::whole;
+use arithmetic::outcome::Outcome;
+use matrix::checks;
+
+// 4: a whole number of doubles.
+pub fn check_whole(len: usize) -> Outcome
+    ensures { λ r. ⌜ r ≡ check-whole len ⌝ }
+{
+    if len % 8 != 0 {
+        return Outcome::MatrixLength;
+    }
+    Outcome::Complete
+}
+
+// 4: n rows of n doubles.
+pub fn check_entries(n: usize, len: usize) -> Outcome
+    ensures { λ r. ⌜ r ≡ check-entries n len ⌝ }
+{
+    if len % 8 != 0 {
+        return Outcome::MatrixLength;
+    }
+    checks::check_matrix(n, len / 8)
+}
+
+// 5: a buffer for n doubles.
+pub fn check_list_buffer(n: usize, len: usize) -> Outcome
+    ensures { λ r. ⌜ r ≡ check-buffer (8 * n) len ⌝ }
+{
+    if len % 8 != 0 {
+        return Outcome::BufferLength;
+    }
+    checks::check_buffer(n, len / 8)
+}
+
+// 5: a buffer for n rows of n doubles.
+pub fn check_matrix_buffer(n: usize, len: usize) -> Outcome
+    ensures { λ r. ⌜ r ≡ check-buffer (8 * (n * n)) len ⌝ }
+{
+    if len % 8 != 0 {
+        return Outcome::BufferLength;
+    }
+    checks::check_square_buffer(n, len / 8)
+}
+
+// 6: one byte for each index.
+pub fn check_indices(n: usize, idxs: &[u8]) -> Outcome
+    ensures { λ r. ⌜ r ≡ check-indices n (now (idxs .entry)) ⌝ }
+{
+    let len = idxs.len();
+    for k in 0..len {
+        if n <= whole(idxs[k]) {
+            return Outcome::IndexOutOfRange { position: k };
+        }
+    }
+    Outcome::Complete
+}
+
+// The exponent's field isn't all ones.
+fn finite_pattern(v: u64) -> bool
+    ensures { λ r. ⌜ r ≡ finite (ofBits binary64 v) ⌝ }
+{
+    v % 0x8000_0000_0000_0000 / 0x10_0000_0000_0000 != 2047
+}
+
+// The position of the first double that is not finite, or their count. No double is made.
+fn first_not_finite(b: &[u8]) -> usize
+    ensures { λ r. ⌜ r ≡ firstNotFinite (doubles (now (b .entry))) ⌝ }
+{
+    let count = b.len() / 8;
+    for k in 0..count {
+        if !finite_pattern(read_number(b, 8 * k)) {
+            return k;
+        }
+    }
+    count
+}
+
+// 7: in rows of n.
+pub fn check_finite(n: usize, b: &[u8]) -> Outcome
+    ensures { λ r. ⌜ r ≡ check-finite n (doubles (now (b .entry))) ⌝ }
+{
+    let k = first_not_finite(b);
+    if k < b.len() / 8 {
+        return checks::not_finite_at(n, k);
+    }
+    Outcome::Complete
+}

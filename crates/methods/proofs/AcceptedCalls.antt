@@ -1,0 +1,131 @@
+-- The checks of a factorization call pass exactly where its operands are accepted; so they pass a reloading too.
+use mathlib.Core.Path.{_≡_, refl, sym, ap, _∙_, subst}
+use mathlib.Core.List.{List}
+use mathlib.Core.Bool.{Bool, true, false, not, _&&_, _||_, and-false}
+use Prim.Native.Nat.{ℕ, _+_, _*_, _/_, _%_, _≤_, _<_}
+use native.Mathlib.Nat.{div-add-mod', div-lt-iff-lt-mul, mod-lt}
+use native.Mathlib.Omega.{arith}
+use lib.Dec.{T, eqb, leb, ltb}
+use lib.ListN.{length, getD}
+use lib.Ieee.{Float, nan, binary64, fits, toBits}
+use lib.Ieee.Scale.{finite}
+use borrow.Author.Tests.{not-false, leb-true, le-leb, eq-eqb, ne-eqb, le-ltb}
+use Rattle.arithmetic.specs.First.{first}
+use Rattle.arithmetic.specs.Outcome.{refuse, _then_}
+use Rattle.arithmetic.specs.declared.outcome.Outcome.{Outcome}
+use Rattle.arithmetic.specs.declared.outcome.Outcome.the-variants.{UnknownMethod, SizeOutOfRange}
+use Rattle.arithmetic.proofs.FirstLaws.{first-none}
+use Rattle.arithmetic.proofs.OrderLaws.{and-1, and-2}
+use Rattle.arithmetic.proofs.OutcomeLaws.{refuse-complete}
+use Rattle.matrix.specs.Matrix.{at}
+use Rattle.matrix.specs.Checks.{check-size, check-buffer, check-finite, check-symmetric, notFinite, unsymmetric}
+use Rattle.matrix.proofs.CellLaws.{cell-lt}
+use Rattle.matrix.proofs.CheckLaws.{Accepted, both-accepted, goes-on, size-accepted, matrix-accepted, buffer-accepted, entries-accepted, symmetric-accepted}
+use Rattle.arithmetic.specs.DoubleList.{AllDoubles}
+use Rattle.methods.specs.Accepted.{AcceptedOperands, AcceptedTheorem}
+use Rattle.methods.specs.AcceptedMatrix.{AcceptedMatrix}
+use Rattle.methods.specs.Reloading.{LoadOrder, reload}
+use Rattle.methods.specs.Calls.{check-method, operand-checks, factor-checks}
+use Rattle.methods.proofs.LoadOrders.{order}
+use Rattle.methods.proofs.Loaded.{loaded}
+
+-- ---- what passes each check
+pub good-accepted : (bad : Bool) (refusal : Outcome) → bad ≡ false → Accepted (refuse bad refusal)
+good-accepted bad refusal e = record { is = rw e refl }
+
+pub then-accepted : {o rest : Outcome} → Accepted o → Accepted rest → Accepted (o then rest)
+then-accepted {o} {rest} A B = subst Accepted (goes-on A refl) B
+
+pub method-passes : (method : ℕ) → 1 ≤ method → method ≤ 3 → Accepted (check-method method)
+method-passes method p q = good-accepted (not (leb 1 method && leb method 3)) UnknownMethod (rw (le-leb 1 method p, le-leb method 3 q) refl)
+
+pub size-passes : (n : ℕ) → 1 ≤ n → n ≤ 48 → Accepted (check-size n)
+size-passes n p q = good-accepted (eqb n 0 || ltb 48 n) SizeOutOfRange (rw (ne-eqb n 0 (λ e. omega arith), le-ltb 48 n q) refl)
+
+pub length-passes : (wanted len : ℕ) → len ≡ wanted → not (eqb len wanted) ≡ false
+length-passes wanted len e = ap not (eq-eqb len wanted e)
+
+-- no position is bad
+none-passes : (bad : ℕ → Bool) (n : ℕ) → ((k : ℕ) → k < n → bad k ≡ false) → ltb (first bad n) n ≡ false
+none-passes bad n h = le-ltb (first bad n) n (omega (arith, first-none bad n h))
+
+-- position k of n * n is in row k / n and column k % n
+cells : (n : ℕ) (P : ℕ → ℕ → ℕ → Type 0) → 1 ≤ n → ((i j : ℕ) → i < n → j < n → P i j (i * n + j)) → (k : ℕ) → k < n * n → P (k / n) (k % n) k
+cells n P h c k l = subst (P (k / n) (k % n)) (div-add-mod' k n) (c (k / n) (k % n) (div-lt-iff-lt-mul h .1 l) (mod-lt k h))
+
+module _ (n : ℕ) (a : List Float) (some : 1 ≤ n) (A : AcceptedMatrix n a) where
+  pub finite-passes : Accepted (check-finite n a)
+  finite-passes = good-accepted _ _ (none-passes (notFinite a) (length a) (λ k l. ap not (cells n (λ i j k. finite (getD a k nan) ≡ true) some (A .finite-entries) k (omega (arith, A .entries)))))
+
+  pub symmetric-passes : Accepted (check-symmetric n a)
+  symmetric-passes = good-accepted _ _ (none-passes (unsymmetric n a) (n * n) (λ k l.
+      let e : at n a (k / n) (k % n) ≡ at n a (k % n) (k / n) = cells n (λ i j k. at n a i j ≡ at n a j i) some (A .symmetric) k l in
+      ap (λ (b : Bool). ltb (k / n) (k % n) && not b) (eq-eqb _ _ (ap (toBits binary64) e)) ∙ and-false (ltb (k / n) (k % n))))
+
+  pub matrix-doubles : AllDoubles a
+  matrix-doubles k l = cells n (λ i j k. T (fits binary64 (getD a k nan))) some (A .doubles) k (omega (arith, A .entries))
+
+-- ---- both directions
+method-accepted : (method : ℕ) → Accepted (check-method method) → (1 ≤ method) × (method ≤ 3)
+method-accepted method h =
+    let t : (leb 1 method && leb method 3) ≡ true = not-false (leb 1 method && leb method 3) (refuse-complete (not (leb 1 method && leb method 3)) UnknownMethod refl (h .is)) in
+    (leb-true 1 method (and-1 (leb 1 method) (leb method 3) t), leb-true method 3 (and-2 (leb 1 method) (leb method 3) t))
+
+module _ (method n : ℕ) (a : List Float) (l work e p : ℕ) where
+  operands-passed : Accepted (operand-checks method n (length a) l work e p) → AllDoubles a → Accepted (check-finite n a) → Accepted (check-symmetric n a) → AcceptedOperands method n a l work e p
+  unfolding operand-checks
+  operands-passed h d f y =
+      let P = both-accepted _ _ h in
+      let E = both-accepted _ _ (P .0) in
+      let W = both-accepted _ _ (E .0) in
+      let L = both-accepted _ _ (W .0) in
+      let M = both-accepted _ _ (L .0) in
+      let S = both-accepted _ _ (M .0) in
+      let method-is = method-accepted method (S .0) in
+      let size-is = size-accepted n (S .1) in
+      let entries = matrix-accepted n (length a) (M .1) in
+      let doubles : (i j : ℕ) → i < n → j < n → T (fits binary64 (at n a i j)) = λ i j u w. d (i * n + j) (omega (arith, entries, cell-lt n i j u w)) in
+      record {
+        method-from = method-is .0;
+        method-to = method-is .1;
+        rows-from = size-is .0;
+        rows-to = omega (arith, size-is .1);
+        matrix = record {
+          entries = entries;
+          doubles = doubles;
+          finite-entries = entries-accepted n a (record { len = entries; small = size-is .1 }) f;
+          symmetric = symmetric-accepted n a doubles y;
+        };
+        l-is = buffer-accepted (n * n) l (L .1);
+        work-is = buffer-accepted (n * n) work (W .1);
+        e-is = buffer-accepted n e (E .1);
+        p-is = buffer-accepted n p (P .1);
+      }
+
+  passed : AllDoubles a → Accepted (factor-checks method n a l work e p) → AcceptedOperands method n a l work e p
+  unfolding factor-checks
+  passed d h = let y = both-accepted _ _ h in let f = both-accepted _ _ (y .0) in operands-passed (f .0) d (f .1) (y .1)
+
+  pub passes : AcceptedOperands method n a l work e p → Accepted (factor-checks method n a l work e p)
+  unfolding factor-checks operand-checks
+  passes O =
+      let buffer : (wanted len : ℕ) → len ≡ wanted → Accepted (check-buffer wanted len) = λ wanted len e. good-accepted _ _ (length-passes wanted len e) in
+      let sized = then-accepted (method-passes method (O .method-from) (O .method-to)) (size-passes n (O .rows-from) (O .rows-to)) in
+      let matrix = then-accepted sized (good-accepted _ _ (length-passes (n * n) (length a) (O .matrix .entries))) in
+      let matrices = then-accepted (then-accepted matrix (buffer (n * n) l (O .l-is))) (buffer (n * n) work (O .work-is)) in
+      let operands = then-accepted (then-accepted matrices (buffer n e (O .e-is))) (buffer n p (O .p-is)) in
+      then-accepted (then-accepted operands (finite-passes n a (O .rows-from) (O .matrix))) (symmetric-passes n a (O .rows-from) (O .matrix))
+
+pub accepted : AcceptedTheorem
+accepted method n a l work e p d = (λ h. passed method n a l work e p d (record { is = h }), λ O. passes method n a l work e p O .is)
+
+-- ---- a reloading
+pub reload-accepted : (n : ℕ) (a : List Float) (s : List ℕ) → AcceptedMatrix n a → LoadOrder n s → AcceptedMatrix n (reload n s a)
+reload-accepted n a s A L =
+    let M = loaded n a s A L .moved in
+    record {
+      entries = M .entriesB;
+      doubles = λ i j p q. rw (M .moved i j p q) (A .doubles (order s i) (order s j) (L .below i p) (L .below j q));
+      finite-entries = λ i j p q. rw (M .moved i j p q) (A .finite-entries (order s i) (order s j) (L .below i p) (L .below j q));
+      symmetric = λ i j p q. M .moved i j p q ∙ A .symmetric (order s i) (order s j) (L .below i p) (L .below j q) ∙ sym (M .moved j i q p);
+    }

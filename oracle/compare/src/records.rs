@@ -1,0 +1,86 @@
+//! The call of a record: the answer record, and what is handed back beside it.
+
+use crate::answer::difference;
+use crate::calls::{called, refusal, Called, Outcome};
+use crate::operands::filling;
+use crate::port::{self, Refusal, LONGEST_ANSWER};
+use oracle::generate::rng::Rng;
+use oracle::record::Reply;
+
+/// The port's answer record.
+pub fn answer(record: &[u8]) -> Vec<u8> {
+    let mut buffer = filling(LONGEST_ANSWER);
+    let (_, length) = port::record(record, &mut buffer);
+    buffer.truncate(length);
+    buffer
+}
+
+/// On a buffer of its own length, and now and then on one of another.
+pub fn calls(record: &[u8], reply: &Reply, rng: &mut Rng) -> Vec<Called> {
+    let mut made = vec![own_length(record, reply)];
+    if rng.below(4) == 0 {
+        made.push(other_length(record, reply, rng));
+    }
+    made
+}
+
+/// The answer record is put at the buffer's front. Refusal, place and length are also handed back.
+fn own_length(record: &[u8], reply: &Reply) -> Called {
+    let wanted = reply.record();
+    let mut left = filling(LONGEST_ANSWER);
+    left[..wanted.len()].copy_from_slice(&wanted);
+    let (port, buffer) = call(record, filling(LONGEST_ANSWER));
+    let called = called("record", port, outcome(refusal(reply), wanted.len(), &left));
+    Called {
+        // Names the field.
+        difference: difference(&buffer[..wanted.len()], &wanted).or(called.difference),
+        ..called
+    }
+}
+
+/// The buffer stays as it is and the length is 0: refusal 5, after 1 to 4.
+fn other_length(record: &[u8], reply: &Reply, rng: &mut Rng) -> Called {
+    let lent = filling(rng.pick(&[0, LONGEST_ANSWER - 1, LONGEST_ANSWER + 1]));
+    let first = match refusal(reply) {
+        [number @ 1..=4, ..] => [number, 0, 0],
+        _ => [5, 0, 0],
+    };
+    let (port, _) = call(record, lent.clone());
+    called("record", port, outcome(first, 0, &lent))
+}
+
+/// Also the buffer as it is left.
+fn call(record: &[u8], mut buffer: Vec<u8>) -> (Outcome, Vec<u8>) {
+    let (refusal, length) = port::record(record, &mut buffer);
+    (outcome(refusal, length, &buffer), buffer)
+}
+
+/// The length, then the buffer.
+fn outcome(refusal: Refusal, length: usize, buffer: &[u8]) -> Outcome {
+    Outcome {
+        refusal,
+        left: [&length.to_le_bytes(), buffer].concat(),
+    }
+}
+
+#[cfg(test)]
+mod tests {
+    use super::*;
+    use crate::broken;
+    use oracle::record::reply;
+    use std::collections::BTreeSet;
+
+    #[test]
+    fn every_refusal_of_a_record_occurs() {
+        let mut rng = Rng::new(1, 0);
+        let mut seen: BTreeSet<usize> = BTreeSet::new();
+        for _ in 0..2000 {
+            let record = broken::record(&mut rng);
+            for called in calls(&record, &reply(&record), &mut rng) {
+                assert_eq!(called.difference, None);
+                seen.insert(called.refusal);
+            }
+        }
+        assert_eq!(seen, BTreeSet::from([0, 1, 2, 3, 4, 5, 7, 8, 9]));
+    }
+}
