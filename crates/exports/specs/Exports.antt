@@ -84,4 +84,4 @@ pub record RecordExport : Type 0 where
   pub answer : List ℕ
 
 abbrev pub recordExport : RecordCall → RecordExport
-recordExport c = record { written = written (c .answer); answer = c .out }
+recordExport c = record { written = written (c .handed); answer = c .out }

@@ -1,14 +1,8 @@
-pub mod Example
 pub mod Walk
-pub mod MatrixRecord
 pub mod Accepted
-pub mod Reading
 pub mod Answers
 pub mod WriteFields
-pub mod ReadFields
-pub mod ReadBack
 pub mod AnswerLength
 pub mod Early
 pub mod SoundFits
 pub mod Whole
-pub mod ReadBackTheorem

@@ -4,5 +4,3 @@ pub mod AnswerRecord
 pub mod MatrixRecord
 pub mod Writing
 pub mod Record
-pub mod ReadBack
-pub mod ReadBackTheorem

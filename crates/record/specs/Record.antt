@@ -38,11 +38,11 @@ answer b = answer-record (resultOf b)
 
 -- ---- what the record call hands back: its outcome with the answer's length, and the buffer
 pub record RecordCall : Type 0 where
-  pub answer : RecordAnswer
+  pub handed : RecordAnswer
   pub out : List ℕ
 
 abbrev pub recordCall : Outcome → ℕ → List ℕ → RecordCall
-recordCall outcome len out = record { answer = record { outcome = outcome; len = len }; out = out }
+recordCall outcome len out = record { handed = record { outcome = outcome; len = len }; out = out }
 
 -- the answer is the first bytes of the buffer, which `&out[..n]` asks for
 abbrev pub Counts : ℕ → List ℕ → Type 0

@@ -8,7 +8,7 @@ use Rattle.arithmetic.proofs.Cases.{Is, is, holds, fails}
 use Rattle.methods.specs.Result.{Result}
 use Rattle.methods.specs.declared.decomposition.Decomposition.{Decomposition}
 use Rattle.load_order.specs.LoadOrder.{AlikeThroughout, Alike}
-use Rattle.record.specs.ReadBackTheorem.{shown}
+use Rattle.whole_calls.specs.ReadBackTheorem.{shown}
 
 kept : (r : Result) → shown r .decomposition ≡ r .decomposition
 kept r = elim (is (complete (r .decomposition .outcome))) [ holds e ↦ rw e | fails e ↦ rw e ]

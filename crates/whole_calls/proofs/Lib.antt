@@ -1,3 +1,9 @@
+pub mod Example
+pub mod MatrixRecord
+pub mod Reading
+pub mod ReadFields
+pub mod ReadBack
+pub mod ReadBackTheorem
 pub mod Answers
 pub mod Records
 pub mod ByteCalls

@@ -25,9 +25,9 @@ use Rattle.record.specs.AnswerRecord.{longestAnswer}
 use Rattle.record.specs.MatrixRecord.{request, record-checks, matrixOf}
 use Rattle.record.specs.Record.{resultOf}
 use Rattle.record.specs.declared.read.Request.{Request}
-use Rattle.record.proofs.MatrixRecord.{record-request}
-use Rattle.record.proofs.Reading.{record-matrix, record-checks-of}
-use Rattle.record.proofs.ReadBackTheorem.{read-back}
+use Rattle.whole_calls.proofs.MatrixRecord.{record-request}
+use Rattle.whole_calls.proofs.Reading.{record-matrix, record-checks-of}
+use Rattle.whole_calls.proofs.ReadBackTheorem.{read-back}
 use Rattle.whole_calls.specs.Records.{recordOf, RecordsTheorem}
 use Rattle.whole_calls.proofs.Answers.{shown-alike}
 

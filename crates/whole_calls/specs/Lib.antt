@@ -1,2 +1,4 @@
+pub mod ReadBack
+pub mod ReadBackTheorem
 pub mod Records
 pub mod ByteCalls

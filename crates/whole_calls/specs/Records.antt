@@ -12,7 +12,7 @@ use Rattle.load_order.specs.LoadOrder.{Alike}
 use Rattle.encoding.specs.Bytes.{doubleBytes}
 use Rattle.record.specs.AnswerRecord.{longestAnswer}
 use Rattle.record.specs.MatrixRecord.{matrix-record, record-checks}
-use Rattle.record.specs.ReadBack.{readAnswer}
+use Rattle.whole_calls.specs.ReadBack.{readAnswer}
 use Rattle.record.specs.Record.{resultOf, answer}
 
 -- the record that has the bytes of a's entries

@@ -1,1 +1,2 @@
-// Theorems only: document 01's section 'Load order', for two whole records (specs/Records.antt) and two whole calls on bytes (specs/ByteCalls.antt).
+// Theorems only, about whole records and calls on bytes: which records pass check 1, answers read back (specs/ReadBackTheorem.antt), and document 01's section 'Load order'
+// for two records (specs/Records.antt) and two calls (specs/ByteCalls.antt).

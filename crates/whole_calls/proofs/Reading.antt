@@ -6,17 +6,17 @@ use native.Mathlib.Omega.{arith}
 use lib.ListN.{length}
 use lib.Ieee.{Float}
 use Rattle.arithmetic.specs.Outcome.{_then_}
 use Rattle.record.specs.AnswerRecord.{longestAnswer}
 use Rattle.matrix.specs.Checks.{check-size, check-buffer, check-finite, check-symmetric}
 use Rattle.matrix.proofs.CheckLaws.{goes-on}
 use Rattle.methods.specs.Calls.{check-method}
 use Rattle.encoding.specs.Bytes.{doubles, doubleBytes}
 use Rattle.encoding.specs.Checks.{check-entries}
 use Rattle.record.specs.MatrixRecord.{matrix-record, request, entriesOf, matrixOf, request-checks, byte-checks, record-checks}
 use Rattle.record.specs.declared.read.Request.{Request}
 use Rattle.arithmetic.specs.DoubleList.{AllDoubles}
 use Rattle.encoding.proofs.Content.{doubles-content}
-use Rattle.record.proofs.MatrixRecord.{record-length, record-request, record-entries, record-well-formed}
+use Rattle.whole_calls.proofs.MatrixRecord.{record-length, record-request, record-entries, record-well-formed}
 use Rattle.encoding.proofs.ByteLaws.{length-content}
 
 -- ---- the record of a matrix

@@ -6,8 +6,8 @@ use native.Mathlib.Omega.{arith}
 use lib.ListN.{length, take, drop}
 use lib.Seq.{take-append-seam, drop-append-seam}
 use Rattle.encoding.specs.Bytes.{lowFirst, bytes}
 use Rattle.record.specs.Field.{field}
-use Rattle.record.specs.ReadBack.{Field, split}
+use Rattle.whole_calls.specs.ReadBack.{Field, split}
 use Rattle.encoding.proofs.Numbers.{number-bytes}
 
 unfoldable pub join : List Field → List ℕ

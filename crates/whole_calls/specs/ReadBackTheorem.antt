@@ -5,9 +5,9 @@ use mathlib.Core.List.{List, []}
 use Prim.Native.Nat.{ℕ}
 use Rattle.arithmetic.specs.Outcome.{complete}
 use Rattle.methods.specs.Result.{Result}
 use Rattle.record.specs.Writing.{result}
 use Rattle.record.specs.Record.{resultOf, answer}
-use Rattle.record.specs.ReadBack.{readAnswer}
+use Rattle.whole_calls.specs.ReadBack.{readAnswer}
 
 -- what an answer record holds of a result: all of it, or of a refusal the outcome with its place, the tied and the phase-two step
 abbrev pub shown : Result → Result

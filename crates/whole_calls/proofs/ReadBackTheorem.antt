@@ -12,19 +12,19 @@ use Rattle.methods.specs.Calls.{methodOf}
 use Rattle.methods.specs.Result.{Result}
 use Rattle.results.proofs.Theorem.{results}
 use Rattle.encoding.specs.Bytes.{doubles}
 use Rattle.record.specs.AnswerRecord.{longestAnswer, answer-record}
 use Rattle.record.specs.MatrixRecord.{request, entriesOf, request-checks, byte-checks}
-use Rattle.record.specs.ReadBack.{readAnswer}
-use Rattle.record.specs.ReadBackTheorem.{shown, ReadBackTheorem}
+use Rattle.whole_calls.specs.ReadBack.{readAnswer}
+use Rattle.whole_calls.specs.ReadBackTheorem.{shown, ReadBackTheorem}
 use Rattle.record.specs.Record.{refused, resultOf, resultTo, answer}
 use Rattle.record.specs.Writing.{Fits}
 use Rattle.record.specs.declared.read.Request.{Request}
 use Rattle.record.proofs.Accepted.{request-accepted, matrix-accepted}
 use Rattle.record.proofs.Answers.{answer-request, bytes-refused}
 use Rattle.record.proofs.Early.{bytes-parts}
-use Rattle.record.proofs.ReadBack.{read-complete, read-refused}
+use Rattle.whole_calls.proofs.ReadBack.{read-complete, read-refused}
 use Rattle.arithmetic.specs.DoubleList.{AllDoubles}
 use Rattle.record.proofs.SoundFits.{request-fits, bytes-fit}
 
 -- what reading back asks of a result
 record Readable (r : Result) : Type 0 where
