@@ -12,7 +12,7 @@ use Rattle.matrix.specs.declared.utils.EigenAnswer.{EigenAnswer}
 use Rattle.matrix.specs.declared.utils.SearchAnswer.{SearchAnswer}
 use Rattle.methods.specs.Calls.{Call}
 use Rattle.methods.specs.declared.decomposition.Decomposition.{Decomposition}
-use Rattle.record.specs.AnswerRecord.{stepByte}
+use Rattle.answer_record.specs.AnswerRecord.{stepByte}
 use Rattle.record.specs.Record.{RecordCall}
 use Rattle.record.specs.declared.answer.RecordAnswer.{RecordAnswer}
 use Rattle.exports.specs.declared.refusal.Refusal.{Refusal}

@@ -1,7 +1,7 @@
 // The factorizations, by document 01's number of the method.
 ghost use mathlib.Core.Path.{_≡_};
 ghost use Rattle.methods.specs.Calls.{factor-call};
-ghost use Rattle.record.specs.AnswerRecord.{stepByte};
+ghost use Rattle.answer_record.specs.AnswerRecord.{stepByte};
 ghost use Rattle.byte_factor.specs.Factor.{factor-bytes-call};
 ghost use Rattle.exports.specs.Exports.{factorization, factorBytesExport, factorDoublesExport};
 use crate::refusal::Refusal;

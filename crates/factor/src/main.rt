@@ -1,9 +1,9 @@
 // Reads one matrix record from standard input and writes its answer record to standard output, or says on standard error that it can't.
+use answer_record::write::LONGEST_ANSWER;
 use libc::STDERR_FILENO;
 use libc::STDIN_FILENO;
 use libc::STDOUT_FILENO;
 use record::answer::answer;
-use record::write::LONGEST_ANSWER;
 
 fn main() {
     // One byte more than the longest record, so that a longer input is noticed.

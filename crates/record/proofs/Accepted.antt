@@ -15,7 +15,7 @@ use Rattle.methods.specs.AcceptedMatrix.{AcceptedMatrix}
 use Rattle.methods.specs.Calls.{check-method}
 use Rattle.encoding.specs.Bytes.{doubles}
 use Rattle.encoding.specs.Checks.{check-entries}
-use Rattle.record.specs.AnswerRecord.{longestAnswer}
+use Rattle.answer_record.specs.AnswerRecord.{longestAnswer}
 use Rattle.record.specs.MatrixRecord.{request-checks}
 use Rattle.record.specs.declared.read.Request.{Request}
 use Rattle.encoding.proofs.Checked.{entries-length}

@@ -22,7 +22,7 @@ use Rattle.methods.specs.declared.method.Method.the-variants.{Gmw81, Se}
 use Rattle.methods.specs.declared.schnabel_eskow.Tolerances.{Tolerances}
 use Rattle.methods.specs.declared.decomposition.Mark.{Mark}
 use Rattle.methods.specs.declared.decomposition.Mark.the-variants.{Never, Step}
-use Rattle.record.specs.AnswerRecord.{longestAnswer}
+use Rattle.answer_record.specs.AnswerRecord.{longestAnswer}
 use Rattle.record.specs.MatrixRecord.{request, entriesOf, matrixOf, byte-checks, record-checks}
 use Rattle.record.specs.Record.{refused, resultOf, resultTo}
 use Rattle.arithmetic.proofs.Cases.{is, holds, fails}

@@ -15,11 +15,11 @@ use Rattle.matrix.specs.Checks.{check-size, check-buffer, check-finite, check-s
 use Rattle.matrix.proofs.CheckLaws.{Accepted, both-accepted, then-keeps, refuse-keeps}
 use Rattle.methods.specs.Calls.{check-method}
 use Rattle.encoding.specs.Bytes.{doubles}
-use Rattle.record.specs.AnswerRecord.{longestAnswer}
+use Rattle.answer_record.specs.AnswerRecord.{longestAnswer}
 use Rattle.record.specs.Cursor.{walk}
 use Rattle.encoding.specs.Checks.{check-entries}
 use Rattle.record.specs.MatrixRecord.{request, entriesOf, longestRecord, exact, check-record, request-checks, byte-checks, record-checks}
-use Rattle.record.specs.Writing.{PlaceFits}
+use Rattle.answer_record.specs.Writing.{PlaceFits}
 use Rattle.record.specs.declared.cursor.Cursor.{Cursor}
 use Rattle.record.specs.declared.read.Request.{Request}
 use Rattle.record.proofs.Accepted.{Sized, sized, request-accepted}

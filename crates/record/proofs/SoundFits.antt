@@ -29,13 +29,13 @@ use Rattle.results.proofs.Theorem.{results}
 use Rattle.encoding.specs.Bytes.{doubles}
 use Rattle.encoding.proofs.Checked.{each-entry}
 use Rattle.record.specs.MatrixRecord.{request, entriesOf, request-checks, byte-checks}
-use Rattle.record.specs.AnswerRecord.{longestAnswer}
+use Rattle.answer_record.specs.AnswerRecord.{longestAnswer}
 use Rattle.record.specs.Record.{refused, resultOf, resultTo, answer}
-use Rattle.record.specs.Writing.{PlaceFits, Fits}
+use Rattle.answer_record.specs.Writing.{PlaceFits, Fits}
 use Rattle.record.specs.declared.read.Request.{Request}
 use Rattle.record.proofs.Accepted.{request-accepted, matrix-accepted}
 use Rattle.record.proofs.Answers.{answer-request, bytes-refused}
-use Rattle.record.proofs.AnswerLength.{answer-fits}
+use Rattle.answer_record.proofs.AnswerLength.{answer-fits}
 use Rattle.record.proofs.Early.{symmetric-early, bytes-early, bytes-parts}
 
 sound-fits : (n : ℕ) (r : Result) → 0 < n → n ≤ 48 → Sound n r → PlaceFits (place (r .decomposition .outcome)) → Fits r

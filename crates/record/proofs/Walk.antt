@@ -12,7 +12,7 @@ use Rattle.arithmetic.specs.declared.outcome.Outcome.{Outcome}
 use Rattle.arithmetic.specs.declared.outcome.Outcome.the-variants.{Complete, MalformedRecord}
 use Rattle.arithmetic.proofs.Cases.{same-tests}
 use Rattle.encoding.specs.Bytes.{lowFirst}
-use Rattle.record.specs.Field.{field}
+use Rattle.answer_record.specs.Field.{field}
 use Rattle.record.specs.Cursor.{after, nothingDue, noted, partAt, cut, passField}
 use Rattle.record.specs.MatrixRecord.{check-walk}
 use Rattle.record.specs.declared.cursor.Cursor.{Cursor}

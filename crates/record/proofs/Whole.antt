@@ -21,15 +21,15 @@ use Rattle.methods.specs.declared.decomposition.Decomposition.{Decomposition}
 use Rattle.encoding.specs.Bytes.{doubles}
 use Rattle.record.specs.Cursor.{contentAt, walk}
 use Rattle.record.specs.MatrixRecord.{requestOf, request, entriesOf, check-record, request-checks, byte-checks}
-use Rattle.record.specs.AnswerRecord.{longestAnswer, answer-record}
+use Rattle.answer_record.specs.AnswerRecord.{longestAnswer, answer-record}
 use Rattle.record.specs.Record.{refused, resultOf, resultTo, Lent, requestCall, answer, recordCall, Answers, Counts, record-call}
-use Rattle.record.specs.Writing.{Front, MarksFit, PlaceFits, Fits, result}
+use Rattle.answer_record.specs.Writing.{Front, MarksFit, PlaceFits, Fits, result}
 use Rattle.record.specs.declared.cursor.Cursor.{Cursor}
 use Rattle.record.specs.declared.read.Request.{Request}
 use Rattle.record.proofs.Accepted.{request-accepted}
 use Rattle.record.specs.declared.answer.RecordAnswer.{RecordAnswer}
 use Rattle.record.proofs.Answers.{answer-request, bytes-refused, other-checks}
-use Rattle.record.proofs.WriteFields.{refused-alike}
+use Rattle.answer_record.proofs.WriteFields.{refused-alike}
 use Rattle.encoding.proofs.Over.{length-over}
 use Rattle.record.proofs.SoundFits.{request-fits, bytes-fit, answer-length-at-most}
 

@@ -11,9 +11,9 @@ use Rattle.arithmetic.specs.declared.outcome.Outcome.the-variants.{Complete, Ma
 use Rattle.matrix.specs.Checks.{check-size, check-buffer, check-finite, check-symmetric}
 use Rattle.methods.specs.Calls.{check-method}
 use Rattle.encoding.specs.Bytes.{bytes, doubles}
-use Rattle.record.specs.Field.{field}
+use Rattle.answer_record.specs.Field.{field}
 use Rattle.encoding.specs.Checks.{check-entries}
-use Rattle.record.specs.AnswerRecord.{longestAnswer}
+use Rattle.answer_record.specs.AnswerRecord.{longestAnswer}
 use Rattle.record.specs.Cursor.{contentAt, walk}
 use Rattle.record.specs.declared.cursor.Cursor.{Cursor}
 use Rattle.record.specs.declared.cursor.Stage.{Stage}

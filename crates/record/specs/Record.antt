@@ -16,9 +16,9 @@ use Rattle.methods.specs.Calls.{Call, methodOf, answered, untouched}
 use Rattle.methods.specs.declared.decomposition.Mark.the-variants.{Never}
 use Rattle.encoding.specs.Bytes.{doubles}
 use Rattle.record.specs.MatrixRecord.{request, matrixOf, record-checks}
-use Rattle.record.specs.AnswerRecord.{longestAnswer, answer-record}
+use Rattle.answer_record.specs.AnswerRecord.{longestAnswer, answer-record}
 use Rattle.encoding.specs.Writing.{over}
-use Rattle.record.specs.Writing.{Front}
+use Rattle.answer_record.specs.Writing.{Front}
 use Rattle.record.specs.declared.answer.RecordAnswer.{RecordAnswer}
 use Rattle.record.specs.declared.read.Request.{Request}
 

@@ -9,8 +9,8 @@ ghost use Rattle.record.specs.Record.{Answers, Buffers, Lent, requestCal
 use crate::cursor;
 use crate::read;
 use crate::read::Request;
-use crate::write;
-use crate::write::LONGEST_ANSWER;
+use answer_record::write;
+use answer_record::write::LONGEST_ANSWER;
 use arithmetic::outcome::Outcome;
 use encoding::read::read_doubles;
 use matrix::checks::check_symmetric;

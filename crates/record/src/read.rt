@@ -5,7 +5,7 @@ use crate::cursor::Cursor;
 use crate::cursor::Part;
 use crate::cursor::Stage;
 use crate::cursor::byte_at;
-use crate::write::LONGEST_ANSWER;
+use answer_record::write::LONGEST_ANSWER;
 use arithmetic::outcome::Outcome;
 use encoding::checks::check_entries;
 use encoding::checks::check_finite;

@@ -2,9 +2,9 @@
 // Writes a line for each case that differs, and a closing count.
 ghost use Prim.Native.Nat.{_<_, _≤_};
 ghost use Rattle.record.specs.Record.{Counts};
+use answer_record::write::LONGEST_ANSWER;
 use libc::STDOUT_FILENO;
 use record::answer::answer;
-use record::write::LONGEST_ANSWER;
 
 fn whole(x: u8) -> usize
     ensures { λ r. ⌜ r < 256 ⌝ }

@@ -19,7 +19,7 @@ use Rattle.matrix.specs.Plain.{AllBelow}
 use Rattle.arithmetic.proofs.Cases.{is, holds, fails}
 use Rattle.matrix.proofs.CheckLaws.{Accepted, both-accepted}
 use Rattle.encoding.specs.Bytes.{lowFirst, bytes}
-use Rattle.record.specs.Field.{field}
+use Rattle.answer_record.specs.Field.{field}
 use Rattle.record.specs.Cursor.{expect, after, nothingDue, noted, partAt, cut, contentAt, passField, walk, nothing, walkStart}
 use Rattle.record.specs.MatrixRecord.{matrix-record, request, entriesOf, longestRecord, check-longest, check-walk, exact, check-exact, check-record}
 use Rattle.record.specs.declared.cursor.Cursor.{Cursor}

@@ -14,12 +14,12 @@ use Rattle.methods.specs.Result.{Result}
 use Rattle.methods.specs.declared.decomposition.Mark.{Mark}
 use Rattle.methods.specs.declared.decomposition.Mark.the-variants.{Never, Step}
 use Rattle.encoding.specs.Bytes.{bytes, doubles, doubleBytes}
-use Rattle.record.specs.Field.{field}
-use Rattle.record.specs.AnswerRecord.{stepByte, marksFields, factorFields, placeField, answer-record}
-use Rattle.record.specs.Writing.{StepFits, Fits, result}
+use Rattle.answer_record.specs.Field.{field}
+use Rattle.answer_record.specs.AnswerRecord.{stepByte, marksFields, factorFields, placeField, answer-record}
+use Rattle.answer_record.specs.Writing.{StepFits, Fits, result}
 use Rattle.whole_calls.specs.ReadBack.{Field, split, outcomeRead, markRead, resultRead, readAnswer}
 use Rattle.encoding.proofs.ByteLaws.{length-content}
-use Rattle.record.proofs.WriteFields.{length-marks}
+use Rattle.answer_record.proofs.WriteFields.{length-marks}
 use Rattle.arithmetic.specs.DoubleList.{AllDoubles}
 use Rattle.encoding.proofs.Content.{doubles-content}
 use Rattle.whole_calls.proofs.ReadFields.{join, Short, split-join}

@@ -12,12 +12,12 @@ use Rattle.methods.specs.Calls.{methodOf}
 use Rattle.methods.specs.Result.{Result}
 use Rattle.results.proofs.Theorem.{results}
 use Rattle.encoding.specs.Bytes.{doubles}
-use Rattle.record.specs.AnswerRecord.{longestAnswer, answer-record}
+use Rattle.answer_record.specs.AnswerRecord.{longestAnswer, answer-record}
 use Rattle.record.specs.MatrixRecord.{request, entriesOf, request-checks, byte-checks}
 use Rattle.whole_calls.specs.ReadBack.{readAnswer}
 use Rattle.whole_calls.specs.ReadBackTheorem.{shown, ReadBackTheorem}
 use Rattle.record.specs.Record.{refused, resultOf, resultTo, answer}
-use Rattle.record.specs.Writing.{Fits}
+use Rattle.answer_record.specs.Writing.{Fits}
 use Rattle.record.specs.declared.read.Request.{Request}
 use Rattle.record.proofs.Accepted.{request-accepted, matrix-accepted}
 use Rattle.record.proofs.Answers.{answer-request, bytes-refused}

@@ -6,7 +6,7 @@ use native.Mathlib.Omega.{arith}
 use lib.ListN.{length, take, drop}
 use lib.Seq.{take-append-seam, drop-append-seam}
 use Rattle.encoding.specs.Bytes.{lowFirst, bytes}
-use Rattle.record.specs.Field.{field}
+use Rattle.answer_record.specs.Field.{field}
 use Rattle.whole_calls.specs.ReadBack.{Field, split}
 use Rattle.encoding.proofs.Numbers.{number-bytes}
 

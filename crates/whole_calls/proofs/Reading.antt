@@ -6,7 +6,7 @@ use native.Mathlib.Omega.{arith}
 use lib.ListN.{length}
 use lib.Ieee.{Float}
 use Rattle.arithmetic.specs.Outcome.{_then_}
-use Rattle.record.specs.AnswerRecord.{longestAnswer}
+use Rattle.answer_record.specs.AnswerRecord.{longestAnswer}
 use Rattle.matrix.specs.Checks.{check-size, check-buffer, check-finite, check-symmetric}
 use Rattle.matrix.proofs.CheckLaws.{goes-on}
 use Rattle.methods.specs.Calls.{check-method}

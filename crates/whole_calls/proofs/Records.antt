@@ -21,7 +21,7 @@ use Rattle.load_order.proofs.Theorem.{load-order}
 use Rattle.encoding.specs.Bytes.{doubleBytes}
 use Rattle.encoding.specs.Checks.{check-entries}
 use Rattle.encoding.proofs.ByteLaws.{length-content}
-use Rattle.record.specs.AnswerRecord.{longestAnswer}
+use Rattle.answer_record.specs.AnswerRecord.{longestAnswer}
 use Rattle.record.specs.MatrixRecord.{request, record-checks, matrixOf}
 use Rattle.record.specs.Record.{resultOf}
 use Rattle.record.specs.declared.read.Request.{Request}

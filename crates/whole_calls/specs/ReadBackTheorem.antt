@@ -5,7 +5,7 @@ use mathlib.Core.List.{List, []}
 use Prim.Native.Nat.{ℕ}
 use Rattle.arithmetic.specs.Outcome.{complete}
 use Rattle.methods.specs.Result.{Result}
-use Rattle.record.specs.Writing.{result}
+use Rattle.answer_record.specs.Writing.{result}
 use Rattle.record.specs.Record.{resultOf, answer}
 use Rattle.whole_calls.specs.ReadBack.{readAnswer}
 

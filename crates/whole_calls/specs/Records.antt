@@ -10,7 +10,7 @@ use Rattle.methods.specs.AcceptedMatrix.{AcceptedMatrix}
 use Rattle.methods.specs.Reloading.{LoadOrder, reload}
 use Rattle.load_order.specs.LoadOrder.{Alike}
 use Rattle.encoding.specs.Bytes.{doubleBytes}
-use Rattle.record.specs.AnswerRecord.{longestAnswer}
+use Rattle.answer_record.specs.AnswerRecord.{longestAnswer}
 use Rattle.record.specs.MatrixRecord.{matrix-record, record-checks}
 use Rattle.whole_calls.specs.ReadBack.{readAnswer}
 use Rattle.record.specs.Record.{resultOf, answer}

@@ -3,7 +3,7 @@ use borrow.Author.Needs.{needs}
 use mathlib.Core.Path.{_≡_, ap, _∙_}
 use lib.ListN.{length}
 use Rattle.matrix.proofs.CheckLaws.{accepted, not-accepted, both-accepted, links}
-use Rattle.record.specs.AnswerRecord.{longestAnswer}
+use Rattle.answer_record.specs.AnswerRecord.{longestAnswer}
 use Rattle.record.specs.MatrixRecord.{byte-checks}
 use Rattle.record.specs.Record.{refused}
 use Rattle.record.proofs.Whole.{checks-made, bytes-fits, bytes-answers, request-answers, call-returns, call-writes}

@@ -2,10 +2,10 @@
 use borrow.Author.Needs.{needs}
 use mathlib.Core.List.{[]}
 use native.Mathlib.Omega.{arith}
-use Rattle.record.specs.Writing.{result}
-use Rattle.record.proofs.WriteFields.{refused-written}
-use Rattle.record.proofs.write.write_refusal.Statement.{statement}
-use Rattle.record.proofs.write.write_refusal.Tie as tie
+use Rattle.answer_record.specs.Writing.{result}
+use Rattle.answer_record.proofs.WriteFields.{refused-written}
+use Rattle.answer_record.proofs.write.write_refusal.Statement.{statement}
+use Rattle.answer_record.proofs.write.write_refusal.Tie as tie
 
 write-place-requires : tie.Need-write-place-requires
 write-place-requires c κs = (search needs, rw (c .place .ensures) (c .before .before .before .before .before .before .before .pre .1 .1))

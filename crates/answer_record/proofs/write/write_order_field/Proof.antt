@@ -1,10 +1,10 @@
 -- `write_order_field` meets its contract: a header and rows.
 use borrow.Author.Needs.{needs}
 use mathlib.Core.Path.{refl}
-use Rattle.record.proofs.WriteFields.{field-written}
+use Rattle.answer_record.proofs.WriteFields.{field-written}
 use native.Mathlib.Omega.{arith}
-use Rattle.record.proofs.write.write_order_field.Statement.{statement}
-use Rattle.record.proofs.write.write_order_field.Tie as tie
+use Rattle.answer_record.proofs.write.write_order_field.Statement.{statement}
+use Rattle.answer_record.proofs.write.write_order_field.Tie as tie
 
 returns : tie.Need-returns
 returns c = field-written _ _ _ _ _ _ _ _ _ (c .before .before .before .before .before .before .write-head .ensures) (c .before .before .write-order .ensures) refl (omega arith)

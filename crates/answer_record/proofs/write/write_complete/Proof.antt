@@ -1,10 +1,10 @@
 -- `write_complete` meets its contract: the marks, then p, e and L.
 use mathlib.Core.Path.{_∙_}
 use native.Mathlib.Omega.{arith}
-use Rattle.record.specs.Writing.{result}
-use Rattle.record.proofs.WriteFields.{length-factor, complete-written}
-use Rattle.record.proofs.write.write_complete.Statement.{statement}
-use Rattle.record.proofs.write.write_complete.Tie as tie
+use Rattle.answer_record.specs.Writing.{result}
+use Rattle.answer_record.proofs.WriteFields.{length-factor, complete-written}
+use Rattle.answer_record.proofs.write.write_complete.Statement.{statement}
+use Rattle.answer_record.proofs.write.write_complete.Tie as tie
 
 write-marks-requires : tie.Need-write-marks-requires
 write-marks-requires c κs = (omega (arith, c .before .before .before .before .before .pre .0 .0), c .before .before .before .before .before .pre .1 .marks)

@@ -7,9 +7,9 @@ use lib.ListN.{length, length-append}
 use Rattle.arithmetic.specs.Outcome.{place, complete}
 use Rattle.arithmetic.proofs.Cases.{is, holds, fails}
 use Rattle.methods.specs.Result.{Result}
-use Rattle.record.specs.AnswerRecord.{longestAnswer, marksFields, factorFields, placeField, answer-record}
-use Rattle.record.specs.Writing.{Fits}
-use Rattle.record.proofs.WriteFields.{length-marks, length-factor, length-place}
+use Rattle.answer_record.specs.AnswerRecord.{longestAnswer, marksFields, factorFields, placeField, answer-record}
+use Rattle.answer_record.specs.Writing.{Fits}
+use Rattle.answer_record.proofs.WriteFields.{length-marks, length-factor, length-place}
 
 module _ (r : Result) where
   pub complete-length : complete (r .decomposition .outcome) ≡ true → length (answer-record r) ≡ 21 + length (r .p) + 8 * length (r .e) + 8 * length (r .l)

@@ -1,9 +1,9 @@
 -- `write_byte_field` meets its contract: a header and a byte.
 use borrow.Author.Needs.{needs}
 use mathlib.Core.Path.{refl}
-use Rattle.record.proofs.WriteFields.{field-written}
-use Rattle.record.proofs.write.write_byte_field.Statement.{statement}
-use Rattle.record.proofs.write.write_byte_field.Tie as tie
+use Rattle.answer_record.proofs.WriteFields.{field-written}
+use Rattle.answer_record.proofs.write.write_byte_field.Statement.{statement}
+use Rattle.answer_record.proofs.write.write_byte_field.Tie as tie
 
 returns : tie.Need-returns
 returns c = field-written _ _ _ _ _ _ _ 1 _ (c .before .before .before .before .before .before .write-head .ensures) (c .before .before .write-byte .ensures) refl (c .before .before .before .before .before .before .before .before .before .pre)

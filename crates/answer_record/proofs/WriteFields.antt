@@ -11,10 +11,10 @@ use Rattle.arithmetic.specs.declared.outcome.Place.{Place}
 use Rattle.methods.specs.Result.{Result}
 use Rattle.methods.specs.declared.decomposition.Decomposition.{Decomposition}
 use Rattle.encoding.specs.Bytes.{bytes, doubleBytes}
-use Rattle.record.specs.Field.{field}
-use Rattle.record.specs.AnswerRecord.{stepByte, marksFields, factorFields, placeField, answer-record}
+use Rattle.answer_record.specs.Field.{field}
+use Rattle.answer_record.specs.AnswerRecord.{stepByte, marksFields, factorFields, placeField, answer-record}
 use Rattle.encoding.specs.Writing.{over, Wrote}
-use Rattle.record.specs.Writing.{Front, result}
+use Rattle.answer_record.specs.Writing.{Front, result}
 use Rattle.encoding.proofs.ByteLaws.{length-bytes, length-content}
 use Rattle.encoding.proofs.Over.{over-then}
 

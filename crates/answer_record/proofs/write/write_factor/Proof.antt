@@ -1,9 +1,9 @@
 -- `write_factor` meets its contract: three fields in turn.
 use mathlib.Core.Path.{_∙_}
 use native.Mathlib.Omega.{arith}
-use Rattle.record.proofs.WriteFields.{length-factor, factor-written}
-use Rattle.record.proofs.write.write_factor.Statement.{statement}
-use Rattle.record.proofs.write.write_factor.Tie as tie
+use Rattle.answer_record.proofs.WriteFields.{length-factor, factor-written}
+use Rattle.answer_record.proofs.write.write_factor.Statement.{statement}
+use Rattle.answer_record.proofs.write.write_factor.Tie as tie
 
 write-order-field-requires : tie.Need-write-order-field-requires
 write-order-field-requires c κs =

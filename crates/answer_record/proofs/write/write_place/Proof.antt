@@ -1,8 +1,8 @@
 -- `write_place` meets its contract: a header and two bytes.
 use borrow.Author.Needs.{needs}
-use Rattle.record.proofs.WriteFields.{place-written}
-use Rattle.record.proofs.write.write_place.Statement.{statement}
-use Rattle.record.proofs.write.write_place.Tie as tie
+use Rattle.answer_record.proofs.WriteFields.{place-written}
+use Rattle.answer_record.proofs.write.write_place.Statement.{statement}
+use Rattle.answer_record.proofs.write.write_place.Tie as tie
 
 returns : tie.Need-returns
 returns c = place-written _ _ _ _ _ _ _ _ _ (c .before .before .before .before .before .before .before .before .before .before .before .before .before .before .before .pre .0) (c .before .before .before .before .before .before .before .before .before .before .before .before .write-head .ensures) (c .before .before .before .before .before .before .before .write-byte .ensures) (c .before .before .write-byte2 .ensures)

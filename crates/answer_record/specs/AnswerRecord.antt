@@ -10,7 +10,7 @@ use Rattle.methods.specs.declared.decomposition.Decomposition.{Decomposition}
 use Rattle.methods.specs.declared.decomposition.Mark.{Mark}
 use Rattle.methods.specs.declared.decomposition.Mark.the-variants.{Never, Step}
 use Rattle.encoding.specs.Bytes.{bytes, doubleBytes}
-use Rattle.record.specs.Field.{field}
+use Rattle.answer_record.specs.Field.{field}
 
 -- the most bytes: n = 48
 abbrev pub longestAnswer : ℕ

@@ -1,0 +1,2 @@
+pub mod WriteFields
+pub mod AnswerLength

@@ -1,0 +1,2 @@
+// Answer records: what bytes they are, and writing them.
+pub mod write;
