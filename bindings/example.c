@@ -1,4 +1,4 @@
-/* Factors an indefinite matrix by SE99 and prints L, e and p; then shows a refusal. */
+/* Factors an indefinite matrix by SE99 and prints L, e and p; then shows a refusal, and what is broken in records. */
 #include <stdio.h>
 
 #include "millracer.h"
@@ -36,9 +36,26 @@ static void factor(const double *a) {
   print_step("phase-two step", f.phase2);
 }
 
+static void show_record(const uint8_t *record, size_t record_len) {
+  static uint8_t answer[MILLRACER_LONGEST_ANSWER];
+  millracer_refusal refusal = millracer_record(record, record_len, answer, sizeof answer).refusal;
+  size_t field = refusal.row;
+  printf("refusal %zu", refusal.number);
+  if (refusal.number == MILLRACER_FIELD_PAST_END) printf(": the transfer was cut in field %zu", field);
+  if (refusal.number == MILLRACER_TAG_NOT_DUE) {
+    unsigned tag = record[millracer_field_position(record, record_len, field)];
+    printf(": field %zu has tag %02X, %02X was due", field, tag, millracer_tag_due(field));
+  }
+  printf("\n");
+}
+
 int main(void) {
   const double indefinite[N * N] = {1, 2, 0.5, 2, 4, 1.5, 0.5, 1.5, 0.5};
   const double unsymmetric[N * N] = {1, 2, 0.5, 2, 4, 1.5, 0.5, 1.25, 0.5};
   factor(indefinite);
   factor(unsymmetric);
+  const uint8_t cut[] = {1, 1, 0, 1, 2, 1, 0, 3, 3, 8, 0, 0, 0, 0};
+  const uint8_t without_method[] = {1, 1, 0, 1, 3, 8, 0, 0, 0, 0, 0, 0, 0, 0x10, 0x40};
+  show_record(cut, sizeof cut);
+  show_record(without_method, sizeof without_method);
 }

@@ -30,10 +30,13 @@ extern "C" {
 
 enum { MILLRACER_MAX_N = 48, MILLRACER_NO_STEP = 255 };
 
-/* Refusals, in checking order. 1 to 8 leave every buffer untouched, save that an answer record tells of them. */
+/* Refusals, in checking order but for 10 and 11. Only a record is refused 1, 10 and 11: 1 where it is too long, then
+ * 10 or 11 of its first offending field (10 if both hold of it), then 1 for the rest, then 2 and so on. Its fields
+ * count from 0 and have the tags 01 (n), 02 (method) and 03 (entries).
+ * All but 9 leave every buffer untouched, save that an answer record tells of them. */
 enum {
   MILLRACER_COMPLETE = 0,
-  MILLRACER_MALFORMED_RECORD = 1,
+  MILLRACER_MALFORMED_RECORD = 1,   /* too long, or n or method is not one byte long, or bytes follow the last field */
   MILLRACER_UNKNOWN_METHOD = 2,
   MILLRACER_SIZE_OUT_OF_RANGE = 3,  /* n is 0 or above 48, or a search is over nothing */
   MILLRACER_MATRIX_LENGTH = 4,      /* a matrix without n * n entries; bytes that are no whole number of doubles */
@@ -41,7 +44,9 @@ enum {
   MILLRACER_INDEX_OUT_OF_RANGE = 6, /* row: position of the first such index among those given */
   MILLRACER_NOT_FINITE = 7,         /* row, column: the first entry that is infinite or NaN; in a list position and 0 */
   MILLRACER_UNSYMMETRIC = 8,        /* row, column: the first entry above the diagonal whose mirror has other bits */
-  MILLRACER_STORED_NOT_FINITE = 9   /* row: the first step that stored an infinity or NaN */
+  MILLRACER_STORED_NOT_FINITE = 9,  /* row: the first step that stored an infinity or NaN */
+  MILLRACER_FIELD_PAST_END = 10,    /* the transfer was cut in field ROW: its header or content runs past the end */
+  MILLRACER_TAG_NOT_DUE = 11        /* field ROW has another tag than the one due; it isn't cut */
 };
 
 /* How a call ended: 0, or a refusal and its place; row and column are 0 where none is named. */
@@ -86,8 +91,26 @@ typedef struct {
 } millracer_written;
 
 /* Writes the answer record to a matrix record, any bytes, at the front of answer, which has MILLRACER_LONGEST_ANSWER
- * bytes. A buffer of any other length is refused, 5 after 1 to 4: it stays as it is, and the length is 0. */
+ * bytes. A buffer of any other length is refused, 5, after 1, 10, 11, 2, 3 and 4: it stays as it is, and the length is
+ * 0. */
 millracer_written millracer_record(const uint8_t *record, size_t record_len, uint8_t *answer, size_t answer_len);
+
+/* Where a record's field begins, with its tag, counting from 0: each field before it is passed by its own length.
+ * record_len if the record ends before. After refusal 11 at field ROW the tag that stands there is
+ * record[millracer_field_position(record, record_len, ROW)]. */
+static inline size_t millracer_field_position(const uint8_t *record, size_t record_len, size_t field) {
+  size_t at = 0;
+  for (; field > 0; field--) {
+    if (record_len - at < 3) return record_len;
+    size_t length = record[at + 1] + 256 * (size_t)record[at + 2];
+    if (record_len - at - 3 < length) return record_len;
+    at += 3 + length;
+  }
+  return at;
+}
+
+/* The tag due at a field of a matrix record, from 0. */
+static inline unsigned millracer_tag_due(size_t field) { return field == 0 ? 0x01 : field == 1 ? 0x02 : 0x03; }
 
 /* ---- square root, correctly rounded */
 

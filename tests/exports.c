@@ -1,7 +1,10 @@
 // Each call of bindings/millracer.h, on operands that it accepts or refuses: those on doubles, then those on bytes.
+#define _DEFAULT_SOURCE
 #include <math.h>
 #include <stdio.h>
 #include <string.h>
+#include <sys/mman.h>
+#include <unistd.h>
 
 #include "millracer.h"
 
@@ -149,12 +152,78 @@ static void records(void) {
   EXPECT(memcmp(answer, refused, sizeof refused) == 0);
 }
 
+static const uint8_t small[] = {1, 1, 0, 1, 2, 1, 0, 1, 3, 8, 0, 0, 0, 0, 0, 0, 0, 0x10, 0x40};
+
+// The refusal of a record, the same on a buffer of another length.
+static millracer_refusal refused(const uint8_t *record, size_t record_len) {
+  static uint8_t answer[MILLRACER_LONGEST_ANSWER];
+  memset(answer, 7, sizeof answer);
+  millracer_written other = millracer_record(record, record_len, answer, sizeof answer - 1);
+  EXPECT(other.length == 0 && answer[0] == 7 && memcmp(answer, answer + 1, sizeof answer - 1) == 0);
+  millracer_written w = millracer_record(record, record_len, answer, sizeof answer);
+  EXPECT(is(other.refusal, w.refusal.number, w.refusal.row, w.refusal.column));
+  EXPECT(w.length == 17 && answer[3] == w.refusal.number && answer[15] == w.refusal.row && answer[16] == 0);
+  EXPECT(answer[17] == 7 && memcmp(answer + 17, answer + 18, sizeof answer - 18) == 0);
+  return w.refusal;
+}
+
+// Every cut, every tag, and both at once.
+static void broken_records(void) {
+  const size_t starts[] = {0, 4, 8, sizeof small};
+  uint8_t record[sizeof small];
+  for (size_t field = 0; field < 3; field++) {
+    for (size_t end = starts[field]; end < starts[field + 1]; end++)
+      EXPECT(is(refused(small, end), MILLRACER_FIELD_PAST_END, field, 0));
+    for (unsigned tag = 0; tag < 256; tag++) {
+      memcpy(record, small, sizeof small);
+      record[starts[field]] = (uint8_t)tag;
+      if (tag == millracer_tag_due(field)) continue;
+      EXPECT(is(refused(record, sizeof record), MILLRACER_TAG_NOT_DUE, field, 0));
+      EXPECT(is(refused(record, starts[field + 1]), MILLRACER_TAG_NOT_DUE, field, 0));
+      EXPECT(is(refused(record, starts[field + 1] - 1), MILLRACER_FIELD_PAST_END, field, 0));
+    }
+  }
+  const uint8_t empty_size[] = {1, 0, 0, 2, 1, 0, 1, 3, 0, 0, 9};
+  EXPECT(is(refused(empty_size, 9), MILLRACER_FIELD_PAST_END, 2, 0));
+  EXPECT(is(refused(empty_size, 10), MILLRACER_MALFORMED_RECORD, 0, 0));
+  EXPECT(is(refused(empty_size, 11), MILLRACER_MALFORMED_RECORD, 0, 0));
+  static uint8_t zeros[MILLRACER_LONGEST_RECORD + 1];
+  EXPECT(is(refused(zeros, sizeof zeros), MILLRACER_MALFORMED_RECORD, 0, 0));
+  EXPECT(is(refused(zeros, sizeof zeros - 1), MILLRACER_TAG_NOT_DUE, 0, 0));
+}
+
+// Each record ends where memory does.
+static void positions(void) {
+  const size_t page = (size_t)sysconf(_SC_PAGESIZE);
+  uint8_t *memory = mmap(NULL, 2 * page, PROT_READ | PROT_WRITE, MAP_PRIVATE | MAP_ANONYMOUS, -1, 0);
+  EXPECT(memory != MAP_FAILED && mprotect(memory + page, page, PROT_NONE) == 0);
+  if (failed) return;
+  const size_t starts[] = {0, 4, 8, sizeof small};
+  for (size_t length = 0; length <= sizeof small; length++) {
+    uint8_t *record = memcpy(memory + page - length, small, length);
+    for (size_t field = 0; field < 4; field++) {
+      size_t wanted = starts[field] < length ? starts[field] : length;
+      EXPECT(millracer_field_position(record, length, field) == wanted);
+    }
+    EXPECT(millracer_field_position(record, length, 4) == length);
+    EXPECT(millracer_field_position(record, length, SIZE_MAX) == length);
+  }
+  const uint8_t long_field[303] = {9, 0x2c, 1}, past_end[] = {9, 1, 0x80, 7};
+  memcpy(memory, long_field, sizeof long_field);
+  EXPECT(millracer_field_position(memory, 306, 1) == 303);
+  EXPECT(millracer_field_position(memory, 302, 1) == 302);
+  EXPECT(millracer_field_position(past_end, sizeof past_end, 1) == sizeof past_end);
+  munmap(memory, 2 * page);
+}
+
 int main(void) {
   values();
   matrices();
   factorizations();
   lengths_in_bytes();
   records();
+  broken_records();
+  positions();
   if (!failed) printf("exports: every call answers from C\n");
   return failed;
 }

@@ -18,6 +18,7 @@ SPREAD = os.path.join(ROOT, "examples", "spread.csv")
 LARGEST = sys.float_info.max
 LEAST = 5e-324
 NONE = 0xFF
+MALFORMED = "the record is too long, or n or method is not one byte long, or bytes follow the last field"
 
 
 def load_program():
@@ -190,7 +191,8 @@ class Show(Case):
         self.assertEqual(complete([0], [0.0], [2.0]), ANSWER_EXAMPLE)
 
     def test_refusals(self):
-        for number, words in ((1, "malformed record"), (2, "unknown method"), (3, "n is 0 or above 48"),
+        for number, words in ((1, MALFORMED),
+                              (2, "unknown method"), (3, "n is 0 or above 48"),
                               (4, "the number of entries is not n * n"), (5, "a buffer has a wrong length")):
             self.assertEqual(self.shown(refused(number)), [f"refused: {number}, {words}"])
         self.assertEqual(self.shown(refused(6, 3)), ["refused: 6, index not below n, at position 3"])
@@ -200,6 +202,11 @@ class Show(Case):
             "refused: 9, step 48 stored a value that is not finite",
             "first tied at step 3: the order of rows may have picked the pivot", "phase two from step 7"])
         self.assertEqual(self.shown(refused(9))[1:], ["no pivot search was tied", "no phase two"])
+        for field_index, due in enumerate(("01", "02", "03")):
+            self.assertEqual(self.shown(refused(10, field_index)),
+                             [f"refused: 10, the transfer was cut in field {field_index}"])
+            self.assertEqual(self.shown(refused(11, field_index)),
+                             [f"refused: 11, field {field_index} has a wrong tag, {due} was due"])
 
     def test_steps(self):
         lines = self.shown(complete([1, 0], [0.5, 0.0], [1.0, 0.0, -2.5, 3.0], 0, 1))
@@ -264,7 +271,14 @@ class Show(Case):
                 (complete([0, 1], [0.0] * 2, [0.0] * 4, phase_two=2), "phase-two step 2"),
                 (good[:3] + b"\x08" + good[4:], "refusal 8 without a place"),
                 (refused(0), "no refusal has number 0"),
-                (refused(10), "no refusal has number 10"),
+                (refused(12), "no refusal has number 12"),
+                (refused(1, 1), "refusal 1 cannot be at 1, 0"),
+                (refused(10, 3), "refusal 10 cannot be at 3, 0"),
+                (refused(10, 0, 1), "refusal 10 cannot be at 0, 1"),
+                (refused(11, 3), "refusal 11 cannot be at 3, 0"),
+                (refused(11, 2, 1), "refusal 11 cannot be at 2, 1"),
+                (refused(10, 1, tied=0), "tied step 0"),
+                (refused(11, 1, phase_two=1), "phase-two step 1"),
                 (refused(3, 1), "refusal 3 cannot be at 1, 0"),
                 (refused(6, 0, 1), "cannot be"),
                 (refused(7, 48, 0), "cannot be"),
@@ -274,6 +288,84 @@ class Show(Case):
                 (refused(8, 0, 1, tied=0), "tied step 0"),
                 (field(0x11, b"\x08\0") + refused(8, 0, 1)[4:], "field 11 has length 2 instead of 1")):
             self.assert_mistake(run("show", source=answer), words)
+
+
+class Faults(Case):
+    """show --record"""
+
+    def told(self, answer, matrix):
+        return self.shown(answer, "--record", self.file(matrix))
+
+    def assert_fault(self, matrix, number, index, words):
+        self.assertEqual(self.told(refused(number, index), matrix), [f"refused: {number}, {words}"])
+
+    def test_every_cut(self):
+        for index, start, end in ((0, 0, 4), (1, 4, 8), (2, 8, 19)):
+            for length in range(start, end):
+                arrived = length - start
+                words = f"3 bytes of header were due, {arrived} arrived"
+                if arrived >= 3:
+                    due = "8 bytes of content were" if index == 2 else "1 byte of content was"
+                    words = f"{due} due, {arrived - 3} arrived"
+                self.assert_fault(MATRIX_EXAMPLE[:length], 10, index,
+                                  f"the transfer was cut in field {index}: {words}")
+
+    def test_every_tag(self):
+        for index, start in enumerate((0, 4, 8)):
+            for tag in set(range(256)) - {index + 1}:
+                matrix = MATRIX_EXAMPLE[:start] + bytes([tag]) + MATRIX_EXAMPLE[start + 1:]
+                words = f"field {index} has tag {tag:02X}, 0{index + 1} was due"
+                self.assert_fault(matrix, 11, index, words)
+
+    def test_order(self):
+        size, method, entries = MATRIX_EXAMPLE[:4], MATRIX_EXAMPLE[4:8], MATRIX_EXAMPLE[8:]
+        two, none = field(0x01, b"\1\1"), field(0x02, b"")
+        for matrix, number, index, words in (
+                (b"\7" + size[1:3], 10, 0, "the transfer was cut in field 0: 1 byte of content was due, 0 arrived"),
+                (size + entries, 11, 1, "field 1 has tag 03, 02 was due"),
+                (method + b"\1", 11, 0, "field 0 has tag 02, 01 was due"),
+                (two + method + entries, 1, 0, "field 0 has length 2, 1 was due"),
+                (size + none + entries, 1, 0, "field 1 has length 0, 1 was due"),
+                (two + none + entries + b"\0", 1, 0, "field 0 has length 2, 1 was due"),
+                (two + b"\7" + method[1:] + entries, 11, 1, "field 1 has tag 07, 02 was due"),
+                (two + method + entries[:-1], 10, 2,
+                 "the transfer was cut in field 2: 8 bytes of content were due, 7 arrived"),
+                (MATRIX_EXAMPLE + b"\0", 1, 0, "1 byte after the last field"),
+                (MATRIX_EXAMPLE * 2, 1, 0, "19 bytes after the last field"),
+                (b"\0" * 18444, 1, 0, "the record has 18444 bytes, at most 18443 are accepted"),
+                (b"\0" * 18443, 11, 0, "field 0 has tag 00, 01 was due")):
+            self.assert_fault(matrix, number, index, words)
+
+    def test_other_answers_stay_as_they_are(self):
+        two_rows = self.written("1 2\n2 3")
+        for answer, matrix in ((ANSWER_EXAMPLE, MATRIX_EXAMPLE), (refused(8, 0, 1), two_rows),
+                               (refused(9, 1), MATRIX_EXAMPLE)):
+            self.assertEqual(self.told(answer, matrix), self.shown(answer))
+
+    def test_refusals_2_to_4(self):
+        for answer, at, byte, words in ((refused(2), 7, 4, "unknown method 4"), (refused(3), 3, 0, "n is 0"),
+                                        (refused(4), 3, 2, "8 bytes of entries, 32 were due")):
+            matrix = bytearray(MATRIX_EXAMPLE)
+            matrix[at] = byte
+            self.assertEqual(self.told(answer, bytes(matrix)), [f"refused: {answer[3]}, {words}"])
+
+    def test_records_of_other_answers(self):
+        for answer, matrix, words in (
+                (refused(11, 1), MATRIX_EXAMPLE, "it isn't refused 11"),
+                (refused(1), MATRIX_EXAMPLE, "it isn't refused 1"),
+                (refused(2), MATRIX_EXAMPLE, "it isn't refused 2"),
+                (refused(10, 1), MATRIX_EXAMPLE[:-1], "it is refused 10, the transfer was cut in field 2: 8 bytes"),
+                (refused(11, 2), MATRIX_EXAMPLE[:-1], "it is refused 10"),
+                (ANSWER_EXAMPLE, b"", "it is refused 10, the transfer was cut in field 0: 3 bytes of header"),
+                (refused(7, 0, 0), MATRIX_EXAMPLE + b"\0", "it is refused 1, 1 byte after the last field"),
+                (complete([1, 0], [0.0] * 2, [0.0] * 4), MATRIX_EXAMPLE, "it has 1 rows, the answer 2"),
+                (refused(9, 2), MATRIX_EXAMPLE, "it has 1 rows, the answer's step is 2"),
+                (refused(8, 0, 1), MATRIX_EXAMPLE, "it has 1 rows, the answer's place is row 0, column 1")):
+            self.assert_mistake(run("show", "--record", self.file(matrix), source=answer),
+                                f"is not the record that was answered: {words}")
+
+    def test_unreadable(self):
+        self.assert_mistake(run("show", "--record", "absent", source=refused(1)), "absent: No such file")
 
 
 class Program(Case):

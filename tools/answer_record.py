@@ -3,12 +3,13 @@ import struct
 from typing import List, NamedTuple, Tuple
 
 from matrix_file import LARGEST_N, Mistake
+from matrix_record import TAGS_DUE, tag_words
 
 NO_STEP = 0xFF
 COMPLETE_TAGS = [0x11, 0x12, 0x13, 0x14, 0x15, 0x16]
 REFUSED_TAGS = [0x11, 0x12, 0x13, 0x17]
 REFUSALS = {
-    1: "malformed record",
+    1: "the record is too long, or n or method is not one byte long, or bytes follow the last field",
     2: "unknown method",
     3: "n is 0 or above 48",
     4: "the number of entries is not n * n",
@@ -17,6 +18,7 @@ REFUSALS = {
     7: "not finite",
     8: "unsymmetric",
 }
+LAST_REFUSAL = 11
 
 
 class Answer(NamedTuple):
@@ -89,14 +91,16 @@ def is_place(refusal, row, column):
         return row < LARGEST_N and column < LARGEST_N
     if refusal == 8:
         return row < column < LARGEST_N
-    return row <= LARGEST_N and column == 0
+    if refusal == 9:
+        return row <= LARGEST_N and column == 0
+    return row < len(TAGS_DUE) and column == 0
 
 
 def refused_answer(contents):
     check_lengths(REFUSED_TAGS, contents, [1, 1, 1, 2])
     refusal, tied, phase_two = (content[0] for content in contents[:3])
     row, column = contents[3]
-    if not 1 <= refusal <= 9:
+    if not 1 <= refusal <= LAST_REFUSAL:
         raise Mistake(f"no refusal has number {refusal}")
     if not is_place(refusal, row, column):
         raise Mistake(f"refusal {refusal} cannot be at {row}, {column}")
@@ -128,8 +132,12 @@ def read_answer(record):
 def refusal_words(answer, labels):
     number, (row, column) = answer.refusal, answer.place
     if number == 9:
-        return f"refused: 9, step {row} stored a value that is not finite"
-    words = f"refused: {number}, {REFUSALS[number]}"
+        return f"step {row} stored a value that is not finite"
+    if number == 10:
+        return f"the transfer was cut in field {row}"
+    if number == 11:
+        return f"field {row} has a wrong tag, {tag_words(row)}"
+    words = REFUSALS[number]
     if number == 6:
         return f"{words}, at position {row}"
     if number in (7, 8):
@@ -157,11 +165,13 @@ def table(rows):
     return lines
 
 
-def answer_lines(answer, labels, number_words):
-    """The answer as lines; labels are what to call each row, number_words how to write a number."""
+def answer_lines(answer, labels, number_words, fault=None):
+    """The answer as lines; labels are what to call each row, number_words how to write a number, fault what is known
+    to be wrong in the record."""
     steps = [tied_words(answer.tied), phase_two_words(answer.phase_two)]
     if answer.refusal != 0:
-        return [refusal_words(answer, labels)] + (steps if answer.refusal == 9 else [])
+        words = f"refused: {answer.refusal}, {fault or refusal_words(answer, labels)}"
+        return [words] + (steps if answer.refusal == 9 else [])
     pivots = [labels[row] for row in answer.p]
     amounts = [[labels[row], number_words(amount)] for row, amount in enumerate(answer.e)]
     factor = [[pivot] + [number_words(entry) for entry in row] for pivot, row in zip(pivots, answer.L)]

@@ -1,8 +1,8 @@
-//! Document 01's records: the answer record to any bytes. Written apart from the port.
+//! Documents 01's and 02's records: the answer record to any bytes. Written apart from the port.
 
 mod checks;
 
-pub use checks::{checked, Input, Refusal};
+pub use checks::{checked, Input, Refusal, DUE, MALFORMED, PAST_END, TAG_NOT_DUE};
 
 use crate::{factor, Answer, COMPLETE, NOT_FINITE};
 
@@ -12,10 +12,10 @@ pub const MAX_N: u8 = 48;
 
 const NONE: u8 = 0xff;
 
-/// What document 01 answers to a record.
+/// What is answered to a record.
 #[derive(Clone, Debug, PartialEq)]
 pub struct Reply {
-    /// The method and n of a record that passes check 1.
+    /// The method and n of a record that passes checks 1, 10 and 11.
     pub header: Option<(u8, u8)>,
     pub outcome: Result<Answer, Refusal>,
     pub tied: Option<usize>,
@@ -36,12 +36,16 @@ pub fn bytes(entries: &[f64]) -> Vec<u8> {
 }
 
 pub fn matrix_record(method: u8, n: u8, entries: &[f64]) -> Vec<u8> {
-    [
-        field(0x01, &[n]),
-        field(0x02, &[method]),
-        field(0x03, &bytes(entries)),
-    ]
-    .concat()
+    sized_record(&[n], &[method], &bytes(entries))
+}
+
+/// The fields due, of any lengths.
+pub fn sized_record(n: &[u8], method: &[u8], entries: &[u8]) -> Vec<u8> {
+    let contents = [n, method, entries];
+    let fields = DUE.iter().zip(contents);
+    fields
+        .flat_map(|(tag, content)| field(*tag, content))
+        .collect()
 }
 
 pub fn reply(record: &[u8]) -> Reply {

@@ -1,6 +1,7 @@
 //! The list that the program `replay` runs through the port: records, with the oracle's answers.
 
 mod entries;
+mod fields;
 mod generated;
 mod hand;
 mod phase_one;
@@ -38,10 +39,15 @@ impl Entry {
     }
 }
 
+fn of_kind(name: &str, records: Vec<Vec<u8>>) -> Vec<Entry> {
+    records.into_iter().map(|r| Entry::new(name, r)).collect()
+}
+
 /// The same at every call.
 pub fn list() -> Vec<Entry> {
     [
         hand::all(),
+        fields::all(),
         shape::all(),
         entries::all(),
         steps::all(),

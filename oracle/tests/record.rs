@@ -1,8 +1,10 @@
 //! Records and answers byte by byte.
 
-use oracle::record::{field, matrix_record, reply, LONGEST};
+use oracle::record::{field, matrix_record, reply, sized_record, LONGEST};
 use oracle::replay::framed;
 use oracle::{GMW81, SE90, SE99};
+
+const EXAMPLE: &str = "01 01 00 01 02 01 00 01 03 08 00 00 00 00 00 00 00 10 40";
 
 fn answer(record: &[u8]) -> Vec<u8> {
     reply(record).record()
@@ -16,8 +18,7 @@ fn bytes(hexadecimal: &str) -> Vec<u8> {
 #[test]
 fn the_example() {
     let record = matrix_record(GMW81, 1, &[4.0]);
-    let given = "01 01 00 01 02 01 00 01 03 08 00 00 00 00 00 00 00 10 40";
-    assert_eq!(record, bytes(given));
+    assert_eq!(record, bytes(EXAMPLE));
     let wanted = "11 01 00 00 12 01 00 FF 13 01 00 FF 14 01 00 00 \
                   15 08 00 00 00 00 00 00 00 00 00 16 08 00 00 00 00 00 00 00 00 40";
     assert_eq!(answer(&record), bytes(wanted));
@@ -32,8 +33,80 @@ fn lengths_at_48() {
 
 #[test]
 fn a_refusal_has_only_its_place() {
-    let wanted = "11 01 00 01 12 01 00 FF 13 01 00 FF 17 02 00 00 00";
+    let wanted = "11 01 00 04 12 01 00 FF 13 01 00 FF 17 02 00 00 00";
+    assert_eq!(answer(&matrix_record(GMW81, 2, &[4.0])), bytes(wanted));
+    let wanted = "11 01 00 0A 12 01 00 FF 13 01 00 FF 17 02 00 00 00";
     assert_eq!(answer(&[]), bytes(wanted));
+    let wanted = "11 01 00 0B 12 01 00 FF 13 01 00 FF 17 02 00 01 00";
+    assert_eq!(answer(&bytes("01 01 00 01 03 00 00")), bytes(wanted));
+}
+
+/// The number and the place.
+fn refusal(record: &[u8]) -> (u8, [u8; 2]) {
+    let refusal = reply(record).outcome.unwrap_err();
+    (refusal.number, refusal.place)
+}
+
+#[test]
+fn a_cut_is_10_at_the_field_it_is_in() {
+    let example = bytes(EXAMPLE);
+    for end in 0..example.len() {
+        let field = match end {
+            0..4 => 0,
+            4..8 => 1,
+            _ => 2,
+        };
+        assert_eq!(refusal(&example[..end]), (10, [field, 0]), "{end}");
+    }
+}
+
+#[test]
+fn a_wrong_tag_is_11_at_its_field_unless_its_field_is_cut() {
+    for (field, start) in [(0, 0), (1, 4), (2, 8)] {
+        let mut record = bytes(EXAMPLE);
+        record[start] = 0x07;
+        assert_eq!(refusal(&record), (11, [field, 0]));
+        let after = [4, 8, 19][usize::from(field)];
+        assert_eq!(refusal(&record[..after]), (11, [field, 0]));
+        for end in start + 1..after {
+            assert_eq!(refusal(&record[..end]), (10, [field, 0]));
+        }
+    }
+}
+
+#[test]
+fn the_first_offending_field_decides() {
+    let given = [
+        ("07 01 00 01 02 01 00", (11, 0)),
+        ("01 01 00 01 07 01 00 01 03", (11, 1)),
+        ("02 01 00 01 01 01 00 01", (11, 0)),
+        ("01 FF 00 01 07 01 00 01 03 00 00", (10, 0)),
+        ("01 01 00 01 02 FF FF 01 07 00 00", (10, 1)),
+    ];
+    for (record, (number, field)) in given {
+        assert_eq!(refusal(&bytes(record)), (number, [field, 0]), "{record}");
+    }
+}
+
+#[test]
+fn lengths_and_bytes_after_are_judged_after_the_fields() {
+    let given = [
+        ("01 00 00 02 01 00 01 03 00 00", (1, 0)),
+        ("01 02 00 01 01 02 01 00 01 03 00 00", (1, 0)),
+        ("01 01 00 01 02 00 00 03 00 00", (1, 0)),
+        ("01 01 00 01 02 02 00 01 01 03 00 00", (1, 0)),
+        ("01 01 00 01 02 01 00 01 03 00 00 04", (1, 0)),
+        ("01 00 00 07 01 00 01 03 00 00", (11, 1)),
+        ("01 00 00 02 01 00 01 04 00 00", (11, 2)),
+        ("01 00 00 02 01 00", (10, 1)),
+        ("01 00 00 02 01 00 01 03 01 00", (10, 2)),
+        ("01 01 00 01 02 02 00 01 01 03 00", (10, 2)),
+        ("01 01 00 01 02 02 00 01 01 04 00 00", (11, 2)),
+        ("01 00 00 02 00 00 03 00 00 03", (1, 0)),
+    ];
+    for (record, (number, field)) in given {
+        assert_eq!(refusal(&bytes(record)), (number, [field, 0]), "{record}");
+    }
 }
 
 #[test]
@@ -68,18 +141,18 @@ fn lengths_have_their_low_byte_first() {
 #[test]
 fn one_byte_more_than_the_longest() {
     let content = vec![0; LONGEST - 10];
-    let record = [
-        field(0x01, &[48]),
-        field(0x02, &[GMW81]),
-        field(0x03, &content),
-    ]
-    .concat();
-    assert_eq!((record.len(), reply(&record).refusal()), (18_444, 1));
-    let shorter = [
-        field(0x01, &[48]),
-        field(0x02, &[GMW81]),
-        field(0x03, &content[2..]),
-    ]
-    .concat();
-    assert_eq!((shorter.len(), reply(&shorter).refusal()), (18_442, 4));
+    let record = sized_record(&[48], &[GMW81], &content);
+    assert_eq!((record.len(), refusal(&record)), (18_444, (1, [0, 0])));
+    let shorter = sized_record(&[48], &[GMW81], &content[2..]);
+    assert_eq!((shorter.len(), refusal(&shorter)), (18_442, (4, [0, 0])));
+}
+
+#[test]
+fn too_long_comes_before_10_and_11() {
+    let zeros = vec![0; LONGEST + 1];
+    assert_eq!(refusal(&zeros), (1, [0, 0]));
+    assert_eq!(refusal(&zeros[1..]), (11, [0, 0]));
+    let cut = [&bytes("01 FF FF")[..], &zeros[3..]].concat();
+    assert_eq!(refusal(&cut), (1, [0, 0]));
+    assert_eq!(refusal(&cut[..LONGEST]), (10, [0, 0]));
 }

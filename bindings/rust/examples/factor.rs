@@ -1,6 +1,7 @@
-//! Factors an indefinite matrix by SE99 and prints L, e and p; then shows a refusal.
+//! Factors an indefinite matrix by SE99 and prints L, e and p; then shows a refusal, and what is broken
+//! in records.
 
-use millracer::mod_cholesky_se99;
+use millracer::{mod_cholesky_se99, record_answer};
 
 const N: usize = 3;
 
@@ -30,7 +31,15 @@ fn factor(a: &[f64]) {
     }
 }
 
+fn answer(record: &[u8]) {
+    if let Err(refusal) = record_answer(record).outcome {
+        println!("{refusal}");
+    }
+}
+
 fn main() {
     factor(&[1.0, 2.0, 0.5, 2.0, 4.0, 1.5, 0.5, 1.5, 0.5]);
     factor(&[1.0, 2.0, 0.5, 2.0, 4.0, 1.5, 0.5, 1.25, 0.5]);
+    answer(&[1, 1, 0, 1, 2, 1, 0, 3, 3, 8, 0, 0, 0, 0]);
+    answer(&[1, 1, 0, 1, 3, 8, 0, 0, 0, 0, 0, 0, 0, 0x10, 0x40]);
 }

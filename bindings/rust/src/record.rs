@@ -24,9 +24,30 @@ pub fn record_answer(record: &[u8]) -> RecordAnswer {
     };
     answer.truncate(written.length);
     RecordAnswer {
-        outcome: ended(written.refusal),
+        outcome: record_ended(written.refusal, record),
         answer,
     }
+}
+
+fn record_ended(r: ffi::Refusal, record: &[u8]) -> Result<(), Refusal> {
+    let field = r.row;
+    match r.number {
+        10 => Err(Refusal::FieldPastEnd { field }),
+        11 => Err(Refusal::TagNotDue {
+            field,
+            tag: tag(record, field),
+        }),
+        _ => ended(r),
+    }
+}
+
+/// The tag of a field that is there, the fields before it passed by their lengths.
+fn tag(record: &[u8], field: usize) -> u8 {
+    let mut at = 0;
+    for _ in 0..field {
+        at += 3 + usize::from(u16::from_le_bytes([record[at + 1], record[at + 2]]));
+    }
+    record[at]
 }
 
 /// The answer record to a matrix record, any bytes.

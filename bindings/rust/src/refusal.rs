@@ -2,9 +2,11 @@ use crate::ffi;
 use std::error::Error;
 use std::fmt;
 
-/// Why a call was refused, in checking order.
+/// Why a call was refused, by number. Only a record is refused 1, 10 and 11: 1 where it is too long, then
+/// 10 or 11 of its first offending field, then 1 for the rest, then 2 and so on in checking order.
 #[derive(Clone, Copy, Debug, PartialEq, Eq)]
 pub enum Refusal {
+    /// A record that is too long, or has a wrong length of field 01 or 02, or bytes after the last field.
     MalformedRecord,
     UnknownMethod,
     /// n is 0 or above 48, or a search is over nothing.
@@ -31,10 +33,28 @@ pub enum Refusal {
     StoredNotFinite {
         step: usize,
     },
+    /// The header or content of the record's field, from 0, runs past the end.
+    FieldPastEnd {
+        field: usize,
+    },
+    /// The record's field, from 0, has this tag and not the one due.
+    TagNotDue {
+        field: usize,
+        tag: u8,
+    },
+}
+
+/// The tag due at a field of a matrix record, from 0.
+fn tag_due(field: usize) -> u8 {
+    match field {
+        0 => 0x01,
+        1 => 0x02,
+        _ => 0x03,
+    }
 }
 
 impl Refusal {
-    /// From 1 to 9.
+    /// From 1 to 11.
     pub fn number(self) -> usize {
         match self {
             Refusal::MalformedRecord => 1,
@@ -46,16 +66,20 @@ impl Refusal {
             Refusal::NotFinite { .. } => 7,
             Refusal::Unsymmetric { .. } => 8,
             Refusal::StoredNotFinite { .. } => 9,
+            Refusal::FieldPastEnd { .. } => 10,
+            Refusal::TagNotDue { .. } => 11,
         }
     }
 
-    /// Row and column, or position or step and 0; 0 and 0 where no place is named.
+    /// Row and column, or position, step or field and 0; 0 and 0 where no place is named.
     pub fn place(self) -> (usize, usize) {
         match self {
             Refusal::IndexOutOfRange { position } => (position, 0),
             Refusal::NotFinite { row, column } => (row, column),
             Refusal::Unsymmetric { row, column } => (row, column),
             Refusal::StoredNotFinite { step } => (step, 0),
+            Refusal::FieldPastEnd { field } => (field, 0),
+            Refusal::TagNotDue { field, .. } => (field, 0),
             _ => (0, 0),
         }
     }
@@ -65,7 +89,10 @@ impl fmt::Display for Refusal {
     fn fmt(&self, f: &mut fmt::Formatter<'_>) -> fmt::Result {
         write!(f, "refusal {}: ", self.number())?;
         match *self {
-            Refusal::MalformedRecord => write!(f, "the record is malformed"),
+            Refusal::MalformedRecord => write!(
+                f,
+                "the record is too long, or n or method is not one byte long, or bytes follow the last field"
+            ),
             Refusal::UnknownMethod => write!(f, "the method is unknown"),
             Refusal::SizeOutOfRange => write!(f, "the size is out of range"),
             Refusal::MatrixLength => write!(f, "the matrix has a wrong length"),
@@ -82,13 +109,20 @@ impl fmt::Display for Refusal {
             Refusal::StoredNotFinite { step } => {
                 write!(f, "step {step} stored a value that is not finite")
             }
+            Refusal::FieldPastEnd { field } => {
+                write!(f, "the transfer was cut in field {field}")
+            }
+            Refusal::TagNotDue { field, tag } => {
+                let due = tag_due(field);
+                write!(f, "field {field} has tag {tag:02X}, {due:02X} was due")
+            }
         }
     }
 }
 
 impl Error for Refusal {}
 
-/// What the archive says of how a call ended.
+/// What the archive says of how a call ended, but for 10 and 11, which only a record is refused.
 pub(crate) fn ended(r: ffi::Refusal) -> Result<(), Refusal> {
     let (row, column) = (r.row, r.column);
     Err(match r.number {

@@ -180,11 +180,13 @@ fn refusals_in_words() {
     );
 }
 
+const MATRIX: [u8; 19] = [
+    1, 1, 0, 1, 2, 1, 0, 1, 3, 8, 0, 0, 0, 0, 0, 0, 0, 0x10, 0x40,
+];
+
 #[test]
 fn records() {
-    let matrix = [
-        1, 1, 0, 1, 2, 1, 0, 1, 3, 8, 0, 0, 0, 0, 0, 0, 0, 0x10, 0x40,
-    ];
+    let matrix = MATRIX;
     let marks = [0x11, 1, 0, 0, 0x12, 1, 0, 0xff, 0x13, 1, 0, 0xff];
     let order = [0x14, 1, 0, 0];
     let amounts = [0x15, 8, 0, 0, 0, 0, 0, 0, 0, 0, 0];
@@ -193,21 +195,89 @@ fn records() {
         record(&matrix),
         [&marks[..], &order, &amounts, &factor].concat()
     );
-    let malformed = [
-        0x11, 1, 0, 1, 0x12, 1, 0, 0xff, 0x13, 1, 0, 0xff, 0x17, 2, 0, 0, 0,
-    ];
-    assert_eq!(record(&[]), malformed);
-    assert_eq!(record(&[0; 20000]), malformed);
+    let refused = |number: u8| {
+        [
+            0x11, 1, 0, number, 0x12, 1, 0, 0xff, 0x13, 1, 0, 0xff, 0x17, 2, 0, 0, 0,
+        ]
+    };
+    assert_eq!(record(&[]), refused(10));
+    assert_eq!(record(&[0; 20000]), refused(1));
 
     assert_eq!(record_answer(&matrix).outcome, Ok(()));
     assert_eq!(record_answer(&matrix).answer, record(&matrix));
-    let refused = record_answer(&[]);
-    assert_eq!(refused.outcome, Err(Refusal::MalformedRecord));
-    assert_eq!(refused.answer, malformed);
+    let long = record_answer(&[0; 20000]);
+    assert_eq!(long.outcome, Err(Refusal::MalformedRecord));
+    assert_eq!(long.answer, refused(1));
     let mut infinite = matrix;
     infinite[17..].copy_from_slice(&[0xf0, 0x7f]);
     assert_eq!(
         record_answer(&infinite).outcome,
         Err(Refusal::NotFinite { row: 0, column: 0 })
+    );
+}
+
+fn refused(record: &[u8]) -> Refusal {
+    record_answer(record).outcome.unwrap_err()
+}
+
+/// Each field and its bytes in the record of one row.
+const FIELDS: [(usize, usize, usize); 3] = [(0, 0, 4), (1, 4, 8), (2, 8, 19)];
+
+#[test]
+fn cut_records() {
+    for (field, start, end) in FIELDS {
+        for length in start..end {
+            let refusal = refused(&MATRIX[..length]);
+            assert_eq!(refusal, Refusal::FieldPastEnd { field });
+            assert_eq!((refusal.number(), refusal.place()), (10, (field, 0)));
+        }
+    }
+}
+
+#[test]
+fn wrong_tags() {
+    for (field, start, end) in FIELDS {
+        for tag in (0..=255).filter(|&tag| tag != MATRIX[start]) {
+            let mut record = MATRIX;
+            record[start] = tag;
+            for length in [end, MATRIX.len()] {
+                let refusal = refused(&record[..length]);
+                assert_eq!(refusal, Refusal::TagNotDue { field, tag });
+                assert_eq!((refusal.number(), refusal.place()), (11, (field, 0)));
+            }
+            let cut = Refusal::FieldPastEnd { field };
+            assert_eq!(refused(&record[..end - 1]), cut);
+        }
+    }
+}
+
+/// The tag is found by the lengths that the fields have, whatever they are.
+#[test]
+fn tags_after_wrong_lengths() {
+    let mut record = vec![1, 0x2c, 1];
+    record.resize(303, 0);
+    record.extend([2, 0, 0, 9, 0, 0]);
+    assert_eq!(refused(&record), Refusal::TagNotDue { field: 2, tag: 9 });
+    record[306] = 3;
+    assert_eq!(refused(&record), Refusal::MalformedRecord);
+    record.pop();
+    assert_eq!(refused(&record), Refusal::FieldPastEnd { field: 2 });
+}
+
+#[test]
+fn broken_records_in_words() {
+    let words = |record: &[u8]| refused(record).to_string();
+    assert_eq!(
+        words(&MATRIX[..11]),
+        "refusal 10: the transfer was cut in field 2"
+    );
+    let without_method = [&MATRIX[..4], &MATRIX[8..]].concat();
+    assert_eq!(
+        words(&without_method),
+        "refusal 11: field 1 has tag 03, 02 was due"
+    );
+    assert_eq!(
+        words(&[&MATRIX[..], &[0]].concat()),
+        "refusal 1: the record is too long, or n or method is not one byte long, or bytes follow the last field"
     );
 }

@@ -1,9 +1,9 @@
--- Document 01's number and place of each way a call can end ('Refusals, in checking order').
+-- The number and place of each way a call can end: document 01, 'Refusals, in checking order'; 10 and 11 are document 02's, N1.
 use Prim.Native.Nat.{ℕ}
 use mathlib.Core.Bool.{Bool, cond}
 use lib.Dec.{eqb}
 use Rattle.arithmetic.specs.declared.outcome.Outcome.{Outcome}
-use Rattle.arithmetic.specs.declared.outcome.Outcome.the-variants.{Complete, MalformedRecord, UnknownMethod, SizeOutOfRange, MatrixLength, BufferLength, IndexOutOfRange, NotFinite, Unsymmetric, StoredNotFinite}
+use Rattle.arithmetic.specs.declared.outcome.Outcome.the-variants.{Complete, MalformedRecord, UnknownMethod, SizeOutOfRange, MatrixLength, BufferLength, IndexOutOfRange, NotFinite, Unsymmetric, StoredNotFinite, FieldPastEnd, TagNotDue}
 use Rattle.arithmetic.specs.declared.outcome.Place.{Place}
 
 abbrev pub number : Outcome → ℕ
@@ -17,10 +17,16 @@ number (IndexOutOfRange position) = 6
 number (NotFinite row column) = 7
 number (Unsymmetric row column) = 8
 number (StoredNotFinite step) = 9
+number (FieldPastEnd field) = 10
+number (TagNotDue field) = 11
+
+-- a position, step or field
+abbrev pub alone : ℕ → Place
+alone row = record { row = row; column = 0 }
 
 -- where no place is named
 abbrev pub nowhere : Place
-nowhere = record { row = 0; column = 0 }
+nowhere = alone 0
 
 abbrev pub place : Outcome → Place
 place Complete = nowhere
@@ -29,10 +35,12 @@ place UnknownMethod = nowhere
 place SizeOutOfRange = nowhere
 place MatrixLength = nowhere
 place BufferLength = nowhere
-place (IndexOutOfRange position) = record { row = position; column = 0 }
+place (IndexOutOfRange position) = alone position
 place (NotFinite row column) = record { row = row; column = column }
 place (Unsymmetric row column) = record { row = row; column = column }
-place (StoredNotFinite step) = record { row = step; column = 0 }
+place (StoredNotFinite step) = alone step
+place (FieldPastEnd field) = alone field
+place (TagNotDue field) = alone field
 
 -- ---- checks: each is an outcome, and the first that fails decides
 abbrev pub complete : Outcome → Bool

@@ -1,11 +1,11 @@
 // How a call ends: complete, or with one refusal (document 01, 'Refusals, in checking order').
 ghost use mathlib.Core.Path.{_≡_};
-ghost use Rattle.arithmetic.specs.Outcome.{number, place, complete, _then_};
+ghost use Rattle.arithmetic.specs.Outcome.{number, alone, place, complete, _then_};
 
-// The refusals stand in checking order.
+// By their numbers. A record is checked for 1 (too long), 10 or 11, 1 (lengths, bytes after the last field), then 2 on.
 pub enum Outcome {
     Complete,
-    // The record is not exactly its fields, or is too long.
+    // The record is too long, or its fields stand in order and a length, or a byte after them, is wrong.
     MalformedRecord,
     UnknownMethod,
     // n is 0 or above 48, or a search is over nothing.
@@ -19,16 +19,28 @@ pub enum Outcome {
     Unsymmetric { row: usize, column: usize },
     // A step stored a value that is infinite or NaN.
     StoredNotFinite { step: usize },
+    // The header or content of a record's field runs past the end.
+    FieldPastEnd { field: usize },
+    // A record's field has a tag that isn't due.
+    TagNotDue { field: usize },
 }
 
-// Row and column, or step and 0; 0 and 0 where no place is named.
+// Row and column, or position, step or field and 0; 0 and 0 where no place is named.
 pub struct Place {
     pub row: usize,
     pub column: usize,
 }
 
+impl Place {
+    fn alone(row: usize) -> Place
+        ensures { λ r. ⌜ r ≡ alone row ⌝ }
+    {
+        Place { row, column: 0 }
+    }
+}
+
 impl Outcome {
-    // Document 01's number of a refusal; 0 for none.
+    // The number of a refusal, by documents 01 and 02; 0 for none.
     pub fn number(self) -> u8
         ensures { λ r. ⌜ r ≡ number self ⌝ }
     {
@@ -43,6 +55,8 @@ impl Outcome {
             Outcome::NotFinite { row: _, column: _ } => 7,
             Outcome::Unsymmetric { row: _, column: _ } => 8,
             Outcome::StoredNotFinite { step: _ } => 9,
+            Outcome::FieldPastEnd { field: _ } => 10,
+            Outcome::TagNotDue { field: _ } => 11,
         }
     }
 
@@ -63,22 +77,18 @@ impl Outcome {
         ensures { λ r. ⌜ r ≡ place self ⌝ }
     {
         match self {
-            Outcome::IndexOutOfRange { position } => Place {
-                row: position,
-                column: 0,
-            },
+            Outcome::IndexOutOfRange { position } => Place::alone(position),
             Outcome::NotFinite { row, column } => Place { row, column },
             Outcome::Unsymmetric { row, column } => Place { row, column },
-            Outcome::StoredNotFinite { step } => Place {
-                row: step,
-                column: 0,
-            },
-            Outcome::Complete => Place { row: 0, column: 0 },
-            Outcome::MalformedRecord => Place { row: 0, column: 0 },
-            Outcome::UnknownMethod => Place { row: 0, column: 0 },
-            Outcome::SizeOutOfRange => Place { row: 0, column: 0 },
-            Outcome::MatrixLength => Place { row: 0, column: 0 },
-            Outcome::BufferLength => Place { row: 0, column: 0 },
+            Outcome::StoredNotFinite { step } => Place::alone(step),
+            Outcome::FieldPastEnd { field } => Place::alone(field),
+            Outcome::TagNotDue { field } => Place::alone(field),
+            Outcome::Complete => Place::alone(0),
+            Outcome::MalformedRecord => Place::alone(0),
+            Outcome::UnknownMethod => Place::alone(0),
+            Outcome::SizeOutOfRange => Place::alone(0),
+            Outcome::MatrixLength => Place::alone(0),
+            Outcome::BufferLength => Place::alone(0),
         }
     }
 }

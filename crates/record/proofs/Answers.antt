@@ -66,7 +66,7 @@ pub other-checks : (b : List ℕ) (room : ℕ) → (room ≡ longestAnswer → �
 unfolding record-checks
 other-checks b room h = stops (byte-checks b room) _ (other-room b room h)
 
--- ---- their numbers: 0 or 9 where the checks accept, 1 to 8 where they refuse
+-- ---- their numbers: 0 or 9 where the checks accept, any other where they refuse
 outcome-number : (refused : Mark) → (number (outcomeOf refused) ≡ 0) ⊎ (number (outcomeOf refused) ≡ 9)
 outcome-number Never = inl refl
 outcome-number (Step j) = inr refl
@@ -81,5 +81,5 @@ module _ (b : List ℕ) where
   pub accepted-number : complete (record-checks b longestAnswer) ≡ true → let o = resultOf b .decomposition .outcome in (number o ≡ 0) ⊎ (number o ≡ 9)
   accepted-number h = rw (answer-complete b h) (factor-number (methodOf (request b .method)) tolerances (request b .size) (matrixOf b))
 
-  pub refused-number : complete (record-checks b longestAnswer) ≡ false → let o = resultOf b .decomposition .outcome in (1 ≤ number o) × (number o ≤ 8)
+  pub refused-number : complete (record-checks b longestAnswer) ≡ false → let o = resultOf b .decomposition .outcome in (1 ≤ number o) × (number o ≡ 9 → ⊥)
   refused-number h = rw (refused-outcome b h) (omega (arith, eqb-false (number (record-checks b longestAnswer)) 0 h), checks-early b longestAnswer .number-is)

@@ -1,16 +1,16 @@
--- A refusal before the first step has a number of at most 8, and one byte each for its place's row and column.
-use mathlib.Core.Path.{_≡_}
+-- A refusal before the first step is another than 9, and its place's row and column have one byte each.
+use mathlib.Core.Path.{_≡_, refl}
 use mathlib.Core.List.{List}
-use mathlib.Core.Bool.{Bool, true, not, _&&_, _||_}
+use mathlib.Core.Bool.{Bool, true, false, not, _&&_, _||_}
 use Prim.Native.Nat.{ℕ, _*_, _/_, _%_, _≤_, _<_}
 use native.Mathlib.Nat.{div-lt-iff-lt-mul, mod-lt}
 use native.Mathlib.Omega.{arith}
-use borrow.Author.Tests.{ltb-true}
+use borrow.Author.Tests.{ltb-true, eqb-false}
 use lib.ListN.{length}
-use lib.Dec.{T, eqb, leb, ltb, leb→le}
+use lib.Dec.{eqb, leb, ltb}
 use Rattle.arithmetic.specs.Outcome.{number, place, refuse, _then_}
 use Rattle.arithmetic.specs.declared.outcome.Outcome.{Outcome}
-use Rattle.arithmetic.specs.declared.outcome.Outcome.the-variants.{MalformedRecord, UnknownMethod, SizeOutOfRange, MatrixLength, BufferLength, NotFinite, Unsymmetric}
+use Rattle.arithmetic.specs.declared.outcome.Outcome.the-variants.{Complete, MalformedRecord, UnknownMethod, SizeOutOfRange, MatrixLength, BufferLength, NotFinite, Unsymmetric}
 use Rattle.matrix.specs.Checks.{check-size, check-buffer, check-finite, check-symmetric, firstNotFinite, firstUnsymmetric}
 use Rattle.matrix.proofs.CheckLaws.{Accepted, both-accepted, then-keeps, refuse-keeps}
 use Rattle.methods.specs.Calls.{check-method}
@@ -18,57 +18,72 @@ use Rattle.encoding.specs.Bytes.{doubles}
 use Rattle.answer_record.specs.AnswerRecord.{longestAnswer}
 use Rattle.record.specs.Cursor.{walk}
 use Rattle.encoding.specs.Checks.{check-entries}
-use Rattle.record.specs.MatrixRecord.{request, entriesOf, longestRecord, exact, check-record, request-checks, byte-checks, record-checks}
+use Rattle.record.specs.MatrixRecord.{request, entriesOf, longestRecord, check-walk, exact, check-record, request-checks, byte-checks, record-checks}
 use Rattle.answer_record.specs.Writing.{PlaceFits}
 use Rattle.record.specs.declared.cursor.Cursor.{Cursor}
+use Rattle.record.specs.declared.cursor.Stage.{Stage}
+use Rattle.record.specs.declared.cursor.Stage.the-variants.{SizeDue, MethodDue, EntriesDue, Done, PastEnd, WrongTag}
 use Rattle.record.specs.declared.read.Request.{Request}
 use Rattle.record.proofs.Accepted.{Sized, sized, request-accepted}
-use Rattle.record.proofs.Walk.{walk-keeps}
+use Rattle.record.proofs.Walk.{StopsBelow, walk-below}
 
 pub record Early (o : Outcome) : Type 0 where
-  pub number-is : number o ≤ 8
+  pub number-is : number o ≡ 9 → ⊥
   pub placed : PlaceFits (place o)
 
 -- a refusal without a place
 abbrev zeros : (0 < 256) × (0 < 256)
 zeros = (omega arith, omega arith)
 
-refuse-early : (bad : Bool) (refusal : Outcome) → T (leb (number refusal) 8) → (bad ≡ true → PlaceFits (place refusal)) → Early (refuse bad refusal)
-refuse-early bad refusal h p = refuse-keeps Early bad refusal (record { number-is = omega arith; placed = zeros }) (λ e. record { number-is = leb→le (number refusal) 8 h; placed = p e })
+complete-early : Early Complete
+complete-early = record { number-is = λ e. omega (arith, e); placed = zeros }
+
+refuse-early : (bad : Bool) (refusal : Outcome) → eqb (number refusal) 9 ≡ false → (bad ≡ true → PlaceFits (place refusal)) → Early (refuse bad refusal)
+refuse-early bad refusal h p = refuse-keeps Early bad refusal complete-early (λ e. record { number-is = eqb-false (number refusal) 9 h; placed = p e })
 
 cell-fits : (n k : ℕ) → 0 < n → n ≤ 48 → k < n * n → (k / n < 256) × (k % n < 256)
 cell-fits n k some small h = (omega (arith, div-lt-iff-lt-mul some .1 h), omega (arith, mod-lt k some))
 
-fields-early : (len : ℕ) (c : Cursor) → Early (check-record len c)
+malformed-early : Early MalformedRecord
+malformed-early = record { number-is = λ e. omega (arith, e); placed = zeros }
+
+walk-early : (s : Stage) → StopsBelow 3 s → Early (check-walk s)
+walk-early SizeDue h = malformed-early
+walk-early MethodDue h = malformed-early
+walk-early EntriesDue h = malformed-early
+walk-early Done h = complete-early
+walk-early (PastEnd field) h = record { number-is = λ e. omega (arith, e); placed = (omega (arith, h), omega arith) }
+walk-early (WrongTag field found) h = record { number-is = λ e. omega (arith, e); placed = (omega (arith, h), omega arith) }
+
+fields-early : (len : ℕ) (c : Cursor) → StopsBelow 3 (c .stage) → Early (check-record len c)
 unfolding check-record
-fields-early len c =
-    then-keeps Early _ _ (then-keeps Early _ _ (refuse-early (ltb longestRecord len) MalformedRecord tt (λ _. zeros))
-    (λ _. walk-keeps Early (record { number-is = omega arith; placed = zeros }) (record { number-is = omega arith; placed = zeros }) (c .stage)))
-    (λ _. refuse-early (not (exact c len)) MalformedRecord tt (λ _. zeros))
+fields-early len c h =
+    then-keeps Early _ _ (then-keeps Early _ _ (refuse-early (ltb longestRecord len) MalformedRecord refl (λ _. zeros)) (λ _. walk-early (c .stage) h))
+    (λ _. refuse-early (not (exact c len)) MalformedRecord refl (λ _. zeros))
 
 module _ (r : Request) (room : ℕ) (entries : List ℕ) where
   sizes-early : Early (check-method (r .method) then check-size (r .size) then check-entries (r .size) (length entries))
   sizes-early =
       let n = r .size in
-      then-keeps Early _ _ (then-keeps Early _ _ (refuse-early (not (leb 1 (r .method) && leb (r .method) 3)) UnknownMethod tt (λ _. zeros))
-      (λ _. refuse-early (eqb n 0 || ltb 48 n) SizeOutOfRange tt (λ _. zeros)))
-      (λ _. refuse-early (not (eqb (length entries) (8 * (n * n)))) MatrixLength tt (λ _. zeros))
+      then-keeps Early _ _ (then-keeps Early _ _ (refuse-early (not (leb 1 (r .method) && leb (r .method) 3)) UnknownMethod refl (λ _. zeros))
+      (λ _. refuse-early (eqb n 0 || ltb 48 n) SizeOutOfRange refl (λ _. zeros)))
+      (λ _. refuse-early (not (eqb (length entries) (8 * (n * n)))) MatrixLength refl (λ _. zeros))
 
   finite-early : Sized r entries → Early (check-finite (r .size) (doubles entries))
   finite-early l =
       let n = r .size in
       let f = firstNotFinite (doubles entries) in
-      refuse-early (ltb f (length (doubles entries))) (NotFinite (f / n) (f % n)) tt
+      refuse-early (ltb f (length (doubles entries))) (NotFinite (f / n) (f % n)) refl
       (λ e. cell-fits n f (l .some) (l .square .small) (omega (arith, ltb-true f (length (doubles entries)) e, l .square .len)))
 
   pub symmetric-early : Sized r entries → Early (check-symmetric (r .size) (doubles entries))
   symmetric-early l =
       let n = r .size in
       let f = firstUnsymmetric n (doubles entries) in
-      refuse-early (ltb f (n * n)) (Unsymmetric (f / n) (f % n)) tt (λ e. cell-fits n f (l .some) (l .square .small) (ltb-true f (n * n) e))
+      refuse-early (ltb f (n * n)) (Unsymmetric (f / n) (f % n)) refl (λ e. cell-fits n f (l .some) (l .square .small) (ltb-true f (n * n) e))
 
   lent-early : Early (check-buffer longestAnswer room)
-  lent-early = refuse-early (not (eqb room longestAnswer)) BufferLength tt (λ _. zeros)
+  lent-early = refuse-early (not (eqb room longestAnswer)) BufferLength refl (λ _. zeros)
 
   request-early : Early (request-checks r room entries)
   unfolding request-checks
@@ -77,7 +92,7 @@ module _ (r : Request) (room : ℕ) (entries : List ℕ) where
 module _ (b : List ℕ) (room : ℕ) where
   pub bytes-early : Early (byte-checks b room)
   unfolding byte-checks
-  bytes-early = then-keeps Early _ _ (fields-early (length b) (walk b)) (λ _. request-early (request b) room (entriesOf b))
+  bytes-early = then-keeps Early _ _ (fields-early (length b) (walk b) (walk-below b)) (λ _. request-early (request b) room (entriesOf b))
 
   pub bytes-parts : Accepted (byte-checks b room) → Accepted (request-checks (request b) room (entriesOf b))
   unfolding byte-checks

@@ -1,20 +1,18 @@
--- A walk over a record's fields: what one step does, a field that stands in place is passed, and what a walk passed stands there.
-use mathlib.Core.Path.{_≡_, sym, ap, _∙_}
+-- A walk over a record's fields: what one step does, and at which field a walk stops.
+use mathlib.Core.Path.{_≡_, refl, sym, ap, _∙_}
 use mathlib.Core.List.{List, [], _∷_}
 use mathlib.Core.Bool.{true, false}
 use Prim.Native.Nat.{ℕ, suc, _+_, _-_, _*_, _≤_, _<_}
 use native.Mathlib.Omega.{arith}
 use lib.ListN.{length, getD, take, drop, length-drop, drop-of-length-le}
 use lib.Seq.{take-all, take-nil}
-use lib.Dec.{ltb}
+use lib.Dec.{eqb, ltb}
 use borrow.Author.Tests.{ltb-true, ltb-false, lt-ltb}
-use Rattle.arithmetic.specs.declared.outcome.Outcome.{Outcome}
-use Rattle.arithmetic.specs.declared.outcome.Outcome.the-variants.{Complete, MalformedRecord}
-use Rattle.arithmetic.proofs.Cases.{same-tests}
+use Rattle.arithmetic.specs.Loop.{range, times}
+use Rattle.arithmetic.proofs.Cases.{same-tests, is, holds, fails}
 use Rattle.encoding.specs.Bytes.{lowFirst}
 use Rattle.answer_record.specs.Field.{field}
-use Rattle.record.specs.Cursor.{after, nothingDue, noted, partAt, cut, passField}
-use Rattle.record.specs.MatrixRecord.{check-walk}
+use Rattle.record.specs.Cursor.{expect, after, nothingDue, noted, partAt, cut, passField, walk, walkStart}
 use Rattle.record.specs.declared.cursor.Cursor.{Cursor}
 use Rattle.record.specs.declared.cursor.Part.{Part}
 use Rattle.record.specs.declared.cursor.Parts.{Parts}
@@ -77,11 +75,47 @@ module _ (b : List ℕ) (start len : ℕ) where
   pub part-whole : take (start + len - start) (drop start b) ≡ take len (drop start b)
   part-whole = let e : start + len - start ≡ len = omega arith in rw e
 
--- what holds of both ways that check 1 judges a walk holds of each stage
-pub walk-keeps : (P : Outcome → Type 0) → P Complete → P MalformedRecord → (s : Stage) → P (check-walk s)
-walk-keeps P p q SizeDue = q
-walk-keeps P p q MethodDue = q
-walk-keeps P p q EntriesDue = q
-walk-keeps P p q Done = p
-walk-keeps P p q (PastEnd field) = q
-walk-keeps P p q (WrongTag field) = q
+-- ---- a walk over the three fields
+pub walk-steps : (b : List ℕ) → walk b ≡ passField b 2 (passField b 1 (passField b 0 walkStart))
+unfolding walk range times
+walk-steps b = refl
+
+-- where a walk stopped at a field, its index is below m
+abbrev pub StopsBelow : ℕ → Stage → Type 0
+StopsBelow m SizeDue = Unit {0}
+StopsBelow m MethodDue = Unit {0}
+StopsBelow m EntriesDue = Unit {0}
+StopsBelow m Done = Unit {0}
+StopsBelow m (PastEnd field) = field < m
+StopsBelow m (WrongTag field found) = field < m
+
+weaker : (k : ℕ) (s : Stage) → StopsBelow k s → StopsBelow (suc k) s
+weaker k SizeDue h = tt
+weaker k MethodDue h = tt
+weaker k EntriesDue h = tt
+weaker k Done h = tt
+weaker k (PastEnd field) h = omega (arith, h)
+weaker k (WrongTag field found) h = omega (arith, h)
+
+expect-below : (k tag due : ℕ) (next : Stage) → StopsBelow (suc k) next → StopsBelow (suc k) (expect k tag due next)
+expect-below k tag due next h = elim (is (eqb tag due)) [ holds e ↦ rw e h | fails e ↦ rw e (omega arith) ]
+
+after-below : (k : ℕ) (s : Stage) (tag : ℕ) → StopsBelow k s → StopsBelow (suc k) (after k s tag)
+after-below k SizeDue tag h = expect-below k tag 0x01 MethodDue tt
+after-below k MethodDue tag h = expect-below k tag 0x02 EntriesDue tt
+after-below k EntriesDue tag h = expect-below k tag 0x03 Done tt
+after-below k Done tag h = tt
+after-below k (PastEnd field) tag h = weaker k (PastEnd field) h
+after-below k (WrongTag field found) tag h = weaker k (WrongTag field found) h
+
+step-below : (b : List ℕ) (k : ℕ) (c : Cursor) → StopsBelow k (c .stage) → StopsBelow (suc k) (passField b k c .stage)
+step-below b k c h = elim (is (nothingDue (c .stage))) [
+  | holds n ↦ rw (step-stays b k c n) (weaker k (c .stage) h)
+  | fails n ↦ elim (is (cut b (c .at))) [
+    | holds e ↦ rw (step-stops b k c n e) (omega arith)
+    | fails e ↦ rw (step-passes b k c n e) (after-below k (c .stage) (getD b (c .at) 0) h)
+  ]
+]
+
+pub walk-below : (b : List ℕ) → StopsBelow 3 (walk b .stage)
+walk-below b = rw (walk-steps b) (step-below b 2 _ (step-below b 1 _ (step-below b 0 walkStart tt)))

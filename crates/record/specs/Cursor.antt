@@ -18,7 +18,7 @@ mostFields = 3
 
 -- the stage after field k, by the tag that stands there: the next one where it is due
 abbrev pub expect : ℕ → ℕ → ℕ → Stage → Stage
-expect k tag due next = cond (eqb tag due) next (WrongTag k)
+expect k tag due next = cond (eqb tag due) next (WrongTag k tag)
 
 abbrev pub after : ℕ → Stage → ℕ → Stage
 after k SizeDue tag = expect k tag 0x01 MethodDue
@@ -26,7 +26,7 @@ after k MethodDue tag = expect k tag 0x02 EntriesDue
 after k EntriesDue tag = expect k tag 0x03 Done
 after k Done tag = Done
 after k (PastEnd field) tag = PastEnd field
-after k (WrongTag field) tag = WrongTag field
+after k (WrongTag field found) tag = WrongTag field found
 
 -- no field is due any more
 abbrev pub nothingDue : Stage → Bool
@@ -35,7 +35,7 @@ nothingDue MethodDue = false
 nothingDue EntriesDue = false
 nothingDue Done = true
 nothingDue (PastEnd field) = true
-nothingDue (WrongTag field) = true
+nothingDue (WrongTag field found) = true
 
 -- where the content of the field with a tag stands
 abbrev pub noted : ℕ → Part → Parts → Parts

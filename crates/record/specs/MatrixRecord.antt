@@ -1,4 +1,4 @@
--- What a matrix record means: the request that a walk over its fields finds, then the checks 1, 2, 3, 4, 5, 7 and 8.
+-- What a matrix record means: the request that a walk over its fields finds, then the checks 1, 10 and 11 of its form, and 2, 3, 4, 5, 7 and 8.
 use mathlib.Core.List.{List, [], _∷_, _++_}
 use mathlib.Core.Bool.{Bool, not, _&&_}
 use Prim.Native.Nat.{ℕ}
@@ -7,7 +7,7 @@ use lib.Dec.{eqb, ltb}
 use lib.Ieee.{Float}
 use Rattle.arithmetic.specs.Outcome.{refuse, _then_}
 use Rattle.arithmetic.specs.declared.outcome.Outcome.{Outcome}
-use Rattle.arithmetic.specs.declared.outcome.Outcome.the-variants.{Complete, MalformedRecord}
+use Rattle.arithmetic.specs.declared.outcome.Outcome.the-variants.{Complete, MalformedRecord, FieldPastEnd, TagNotDue}
 use Rattle.matrix.specs.Checks.{check-size, check-buffer, check-finite, check-symmetric}
 use Rattle.methods.specs.Calls.{check-method}
 use Rattle.encoding.specs.Bytes.{bytes, doubles}
@@ -39,20 +39,21 @@ entriesOf b = contentAt b (request b .entries)
 abbrev pub matrixOf : List ℕ → List Float
 matrixOf b = doubles (entriesOf b)
 
--- ---- 1: too long; a field that is cut off or has a wrong tag; a wrong length of 01 or 02, or bytes after the last field
+-- ---- 1: too long; 10 or 11: the walk's first offending field; 1: a wrong length of 01 or 02, or bytes after the last field
 abbrev pub longestRecord : ℕ
 longestRecord = 18443
 
 abbrev pub check-longest : ℕ → Outcome
 check-longest len = refuse (ltb longestRecord len) MalformedRecord
 
+-- of a walk that has ended, as every one has: no walk stops where a field is due (whole_calls, `walk-ends`)
 abbrev pub check-walk : Stage → Outcome
 check-walk SizeDue = MalformedRecord
 check-walk MethodDue = MalformedRecord
 check-walk EntriesDue = MalformedRecord
 check-walk Done = Complete
-check-walk (PastEnd field) = MalformedRecord
-check-walk (WrongTag field) = MalformedRecord
+check-walk (PastEnd field) = FieldPastEnd field
+check-walk (WrongTag field found) = TagNotDue field
 
 abbrev pub exact : Cursor → ℕ → Bool
 exact c len = eqb (c .parts .size .len) 1 && (eqb (c .parts .method .len) 1 && eqb (c .at) len)
@@ -69,7 +70,7 @@ unfolding doubles
 request-checks r room entries =
     check-method (r .method) then check-size (r .size) then check-entries (r .size) (length entries) then check-buffer longestAnswer room then check-finite (r .size) (doubles entries)
 
--- ---- 1, 2, 3, 4, 5, 7: what is checked on bytes, with a buffer of `room` bytes for the answer; then 8
+-- ---- 1, 10, 11, 2, 3, 4, 5, 7: what is checked on bytes, with a buffer of `room` bytes for the answer; then 8
 unfoldable pub byte-checks : List ℕ → ℕ → Outcome
 unfolding check-record request-checks request walk
 byte-checks b room = check-record (length b) (walk b) then request-checks (request b) room (entriesOf b)

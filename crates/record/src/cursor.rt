@@ -13,7 +13,8 @@ pub enum Stage {
     Done,
     // The header or content of a field runs past the end.
     PastEnd { field: usize },
-    WrongTag { field: usize },
+    // Another tag stands there than is due.
+    WrongTag { field: usize, tag: usize },
 }
 
 // Where a field's content stands.
@@ -88,7 +89,7 @@ fn expect(field: usize, tag: usize, due: usize, next: Stage) -> Stage
     if tag == due {
         return next;
     }
-    Stage::WrongTag { field }
+    Stage::WrongTag { field, tag }
 }
 
 // The stage after a field, by the tag that stands there.
@@ -101,7 +102,7 @@ fn after(field: usize, stage: Stage, tag: usize) -> Stage
         Stage::EntriesDue => expect(field, tag, 0x03, Stage::Done),
         Stage::Done => stage,
         Stage::PastEnd { field: _ } => stage,
-        Stage::WrongTag { field: _ } => stage,
+        Stage::WrongTag { field: _, tag: _ } => stage,
     }
 }
 
@@ -114,7 +115,7 @@ fn nothing_due(stage: Stage) -> bool
         Stage::EntriesDue => false,
         Stage::Done => true,
         Stage::PastEnd { field: _ } => true,
-        Stage::WrongTag { field: _ } => true,
+        Stage::WrongTag { field: _, tag: _ } => true,
     }
 }
 

@@ -37,7 +37,7 @@ pub fn read_request(b: &[u8], c: Cursor) -> Request
     }
 }
 
-// ---- 1
+// ---- 1, 10 and 11
 
 const LONGEST_RECORD: usize = 18443;
 
@@ -58,8 +58,8 @@ fn check_walk(stage: Stage) -> Outcome
         Stage::SizeDue => Outcome::MalformedRecord,
         Stage::MethodDue => Outcome::MalformedRecord,
         Stage::EntriesDue => Outcome::MalformedRecord,
-        Stage::PastEnd { field: _ } => Outcome::MalformedRecord,
-        Stage::WrongTag { field: _ } => Outcome::MalformedRecord,
+        Stage::PastEnd { field } => Outcome::FieldPastEnd { field },
+        Stage::WrongTag { field, tag: _ } => Outcome::TagNotDue { field },
     }
 }
 

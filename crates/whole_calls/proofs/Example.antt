@@ -1,6 +1,7 @@
--- Document 01's example: GMW81 of the single entry 4.0.
+-- Answers to single records: document 01's example, GMW81 of the single entry 4.0, and broken records (document 02, N1).
 use mathlib.Core.Path.{_≡_, refl}
-use mathlib.Core.List.{[], _∷_}
+use mathlib.Core.List.{List, [], _∷_}
+use Prim.Native.Nat.{ℕ}
 use lib.Ieee.{ofBits, toBits, sub, mul, div, isNan}
 use Rattle.arithmetic.specs.First.{firstFrom}
 use Rattle.arithmetic.specs.Outcome.{_then_}
@@ -13,3 +14,36 @@ pub example :
     ∷ 0x16 ∷ 0x08 ∷ 0x00 ∷ 0x00 ∷ 0x00 ∷ 0x00 ∷ 0x00 ∷ 0x00 ∷ 0x00 ∷ 0x00 ∷ 0x40 ∷ []
 unfolding answer _then_ firstFrom ofBits sub mul div isNan toBits
 example = refl
+
+-- ---- a refusal before the first step: its number, no marks, and its place
+abbrev refusal : ℕ → ℕ → List ℕ
+refusal number row = 0x11 ∷ 0x01 ∷ 0x00 ∷ number ∷ 0x12 ∷ 0x01 ∷ 0x00 ∷ 0xff ∷ 0x13 ∷ 0x01 ∷ 0x00 ∷ 0xff ∷ 0x17 ∷ 0x02 ∷ 0x00 ∷ row ∷ 0x00 ∷ []
+
+-- nothing arrived
+pub empty : answer [] ≡ refusal 0x0a 0
+unfolding answer _then_
+empty = refl
+
+-- the record ends where field 02 is due
+pub cut-after-size : answer (0x01 ∷ 0x01 ∷ 0x00 ∷ 0x01 ∷ []) ≡ refusal 0x0a 1
+unfolding answer _then_
+cut-after-size = refl
+
+-- field 1 has tag 03, 02 was due
+pub tag-03-for-02 : answer (0x01 ∷ 0x01 ∷ 0x00 ∷ 0x01 ∷ 0x03 ∷ 0x00 ∷ 0x00 ∷ []) ≡ refusal 0x0b 1
+unfolding answer _then_
+tag-03-for-02 = refl
+
+-- .. and where the same field also runs past the end
+pub tag-and-cut : answer (0x01 ∷ 0x01 ∷ 0x00 ∷ 0x01 ∷ 0x03 ∷ 0x01 ∷ 0x00 ∷ []) ≡ refusal 0x0a 1
+unfolding answer _then_
+tag-and-cut = refl
+
+-- field 01 has two bytes, with field 03 missing, and with all three fields
+pub length-and-cut : answer (0x01 ∷ 0x02 ∷ 0x00 ∷ 0x01 ∷ 0x01 ∷ 0x02 ∷ 0x01 ∷ 0x00 ∷ 0x01 ∷ []) ≡ refusal 0x0a 2
+unfolding answer _then_
+length-and-cut = refl
+
+pub length-alone : answer (0x01 ∷ 0x02 ∷ 0x00 ∷ 0x01 ∷ 0x01 ∷ 0x02 ∷ 0x01 ∷ 0x00 ∷ 0x01 ∷ 0x03 ∷ 0x00 ∷ 0x00 ∷ []) ≡ refusal 0x01 0
+unfolding answer _then_
+length-alone = refl

@@ -1,4 +1,5 @@
 pub mod Example
+pub mod Walked
 pub mod MatrixRecord
 pub mod Reading
 pub mod ReadFields
@@ -6,4 +7,5 @@ pub mod ReadBack
 pub mod ReadBackTheorem
 pub mod Answers
 pub mod Records
+pub mod BrokenRecords
 pub mod ByteCalls

@@ -2,32 +2,30 @@
 use mathlib.Core.Path.{_≡_, refl, sym, ap, _∙_}
 use mathlib.Core.List.{List, [], _∷_, _++_, append-nil}
 use mathlib.Core.Bool.{true, false, not, _&&_, false≢true}
-use mathlib.Core.Logic.{_⊎_, inl, inr}
 use Prim.Native.Nat.{ℕ, suc, _+_, _-_, _*_, _/_, _%_, _≤_, _<_}
 use native.Mathlib.Omega.{arith}
 use lib.ListN.{length, getD, take, drop, length-append, length-drop, take-append-drop}
 use lib.Seq.{take-all, take-length, drop-append-add, getD-append-seam, drop-cons, drop-drop, drop-length, length-take-le}
 use lib.Dec.{eqb, ltb}
 use borrow.Author.Tests.{eqb-true, eq-eqb, ltb-false, le-ltb, not-false}
-use Rattle.arithmetic.specs.Loop.{range, times}
 use Rattle.arithmetic.proofs.OrderLaws.{and-1, and-2}
-use Rattle.arithmetic.specs.Outcome.{complete, _then_}
+use Rattle.arithmetic.specs.Outcome.{_then_}
 use Rattle.arithmetic.proofs.OutcomeLaws.{refuse-complete}
 use Rattle.arithmetic.specs.declared.outcome.Outcome.the-variants.{MalformedRecord}
 use Rattle.matrix.proofs.CellLaws.{square-small}
 use Rattle.matrix.specs.Plain.{AllBelow}
-use Rattle.arithmetic.proofs.Cases.{is, holds, fails}
+use Rattle.arithmetic.proofs.Cases.{is}
 use Rattle.matrix.proofs.CheckLaws.{Accepted, both-accepted}
 use Rattle.encoding.specs.Bytes.{lowFirst, bytes}
 use Rattle.answer_record.specs.Field.{field}
-use Rattle.record.specs.Cursor.{expect, after, nothingDue, noted, partAt, cut, contentAt, passField, walk, nothing, walkStart}
+use Rattle.record.specs.Cursor.{after, nothingDue, noted, partAt, cut, contentAt, passField, walk, nothing, walkStart}
 use Rattle.record.specs.MatrixRecord.{matrix-record, request, entriesOf, longestRecord, check-longest, check-walk, exact, check-exact, check-record}
 use Rattle.record.specs.declared.cursor.Cursor.{Cursor}
 use Rattle.record.specs.declared.cursor.Part.{Part}
-use Rattle.record.specs.declared.cursor.Stage.{Stage}
 use Rattle.record.specs.declared.cursor.Stage.the-variants.{MethodDue, EntriesDue, Done}
 use Rattle.encoding.proofs.Numbers.{take-more, number-bytes}
-use Rattle.record.proofs.Walk.{part-is, not-cut, step-stays, step-stops, step-passes}
+use Rattle.record.proofs.Walk.{not-cut, step-passes, walk-steps}
+use Rattle.whole_calls.proofs.Walked.{length-is, one, two, Three, walked, three, cut-in, tag-in}
 
 -- ---- a field that stands in place, after pre, is passed
 module _ (b pre content post : List ℕ) (tag : ℕ) (h : length content < 65536) (place : b ≡ pre ++ (field tag content ++ post)) where
@@ -52,10 +50,6 @@ module _ (b pre content post : List ℕ) (tag : ℕ) (h : length content < 65536
       step-passes b k c s (rw e whole-here) ∙ rw (e, tag-here, len-here)
 
 -- ---- the record of its parts
-pub walk-steps : (b : List ℕ) → walk b ≡ passField b 2 (passField b 1 (passField b 0 walkStart))
-unfolding walk range times
-walk-steps b = refl
-
 -- where the walk over a record of len bytes ends
 abbrev pub ended : ℕ → Cursor
 ended len = record { at = len; stage = Done; parts = record { size = record { start = 3; len = 1 }; method = record { start = 7; len = 1 }; entries = record { start = 11; len = len - 11 } } }
@@ -111,7 +105,7 @@ module _ (b : List ℕ) (at : ℕ) (small : AllBelow 256 b) (whole : cut b at �
       let x = getD b (at + 1) 0 in
       let y = getD b (at + 2) 0 in
       let fits : at + 3 + len ≤ length b = not-cut b at whole in
-      let l : len ≡ x + 256 * y = ap (λ (p : Part). p .len) (sym (part-is b at (omega arith) x y refl refl)) in
+      let l : len ≡ x + 256 * y = length-is b at (omega arith) in
       let low : len % 256 ≡ x = omega (arith, small (at + 1) (omega arith)) in
       let above : len / 256 ≡ y = omega (arith, small (at + 1) (omega arith)) in
       let high : len / 256 % 256 ≡ y = rw above (omega (arith, small (at + 2) (omega arith))) in
@@ -123,61 +117,7 @@ module _ (b : List ℕ) (at : ℕ) (small : AllBelow 256 b) (whole : cut b at �
       let head : drop at b ≡ getD b at 0 ∷ x ∷ y ∷ s = drop-cons b at 0 (omega arith) ∙ rw (one, drop-cons b (at + 1) 0 (omega arith), two, drop-cons b (at + 2) 0 (omega arith), three) in
       head ∙ rw (content, low, high, ← drop-drop len (at + 3) b, take-append-drop len s)
 
--- a walk that failed stays where it failed
-record Failed (s : Stage) : Type 0 where
-  stops : nothingDue s ≡ true
-  refused : complete (check-walk s) ≡ false
-
--- field k, with the tag that was due, is passed
-record Passed (b : List ℕ) (k : ℕ) (c : Cursor) (tag : ℕ) (next : Stage) : Type 0 where
-  whole : cut b (c .at) ≡ false
-  tagged : getD b (c .at) 0 ≡ tag
-  leads : passField b k c ≡ record { at = c .at + 3 + partAt b (c .at) .len; stage = next; parts = noted tag (partAt b (c .at)) (c .parts) }
-
-module _ (b : List ℕ) (k : ℕ) (c : Cursor) (tag : ℕ) (next : Stage) (going : nothingDue (c .stage) ≡ false) (due : (t : ℕ) → after k (c .stage) t ≡ expect k t tag next) where
-  passes-or-fails : Passed b k c tag next ⊎ Failed (passField b k c .stage)
-  passes-or-fails = elim (is (cut b (c .at))) [
-    | holds t ↦ inr (rw (step-stops b k c going t) (record { stops = refl; refused = refl }))
-    | fails t ↦ elim (is (eqb (getD b (c .at) 0) tag)) [
-      | holds e ↦ let g = eqb-true (getD b (c .at) 0) tag e in inl (record { whole = t; tagged = g; leads = step-passes b k c going t ∙ rw (due (getD b (c .at) 0), e, g) })
-      | fails e ↦ inr (rw (step-passes b k c going t, due (getD b (c .at) 0), e) (record { stops = refl; refused = refl }))
-    ]
-  ]
-
--- a walk that came to its end passed its three fields
-abbrev one : List ℕ → Cursor
-one b = passField b 0 walkStart
-
-abbrev two : List ℕ → Cursor
-two b = passField b 1 (one b)
-
-module _ (b : List ℕ) (h : complete (check-walk (walk b .stage)) ≡ true) where
-  fails-not : (c : Cursor) → walk b ≡ c → Failed (c .stage) → ⊥
-  fails-not c e f = false≢true (sym (f .refused) ∙ (rw e at h))
-
-  first : Passed b 0 walkStart 0x01 MethodDue
-  first = elim (passes-or-fails b 0 walkStart 0x01 MethodDue refl (λ t. refl)) [
-    | inl p ↦ p
-    | inr f ↦ absurd (fails-not (one b) (walk-steps b ∙ ap (passField b 2) (step-stays b 1 (one b) (f .stops)) ∙ step-stays b 2 (one b) (f .stops)) f)
-  ]
-
-  second : Passed b 1 (one b) 0x02 EntriesDue
-  second =
-      let s : one b .stage ≡ MethodDue = ap (λ (c : Cursor). c .stage) (first .leads) in
-      elim (passes-or-fails b 1 (one b) 0x02 EntriesDue (rw s refl) (λ t. rw s refl)) [
-        | inl p ↦ p
-        | inr f ↦ absurd (fails-not (two b) (walk-steps b ∙ step-stays b 2 (two b) (f .stops)) f)
-      ]
-
-  third : Passed b 2 (two b) 0x03 Done
-  third =
-      let s : two b .stage ≡ EntriesDue = ap (λ (c : Cursor). c .stage) (second .leads) in
-      elim (passes-or-fails b 2 (two b) 0x03 Done (rw s refl) (λ t. rw s refl)) [
-        | inl p ↦ p
-        | inr f ↦ absurd (fails-not (passField b 2 (two b)) (walk-steps b) f)
-      ]
-
--- .. and, where it is exact, stands where the walk over a record ends
+-- a walk that passes check 1 passed three fields, and stands where the walk over a record ends
 module _ (b : List ℕ) (A : Accepted (check-record (length b) (walk b))) where
   parts : Accepted (check-longest (length b)) × (Accepted (check-walk (walk b .stage)) × Accepted (check-exact (walk b) (length b)))
   unfolding check-record
@@ -197,46 +137,40 @@ module _ (b : List ℕ) (A : Accepted (check-record (length b) (walk b))) where
       let r = and-2 s (m && e) walk-exact in
       (eqb-true (walk b .parts .size .len) 1 (and-1 s (m && e) walk-exact), (eqb-true (walk b .parts .method .len) 1 (and-1 m e r), eqb-true (walk b .at) (length b) (and-2 m e r)))
 
-  F : Passed b 0 walkStart 0x01 MethodDue
-  F = first b (parts .1 .0 .is)
+  W : Three b
+  W = elim (walked b) [
+    | three t ↦ t
+    | cut-in i p e ↦ absurd (false≢true (rw e at (parts .1 .0 .is)))
+    | tag-in i found p e ↦ absurd (false≢true (rw e at (parts .1 .0 .is)))
+  ]
 
-  S : Passed b 1 (one b) 0x02 EntriesDue
-  S = second b (parts .1 .0 .is)
-
-  D : Passed b 2 (two b) 0x03 Done
-  D = third b (parts .1 .0 .is)
-
-  parts-are : (walk b .parts .size ≡ partAt b 0) × ((walk b .parts .method ≡ partAt b (one b .at)) × (walk b .at ≡ two b .at + 3 + partAt b (two b .at) .len))
-  parts-are =
-      let e = walk-steps b ∙ D .leads in (
-        ap (λ (c : Cursor). c .parts .size) e ∙ ap (λ (c : Cursor). c .parts .size) (S .leads) ∙ ap (λ (c : Cursor). c .parts .size) (F .leads),
-        (ap (λ (c : Cursor). c .parts .method) e ∙ ap (λ (c : Cursor). c .parts .method) (S .leads), ap (λ (c : Cursor). c .at) e),
-      )
+  end-is : walk b .at ≡ two b .at + 3 + partAt b (two b .at) .len
+  end-is = ap (λ (c : Cursor). c .at) (walk-steps b ∙ W .third .leads)
 
   size-length : partAt b 0 .len ≡ 1
-  size-length = sym (ap (λ (p : Part). p .len) (parts-are .0)) ∙ exact-parts .0
+  size-length = sym (ap (λ (p : Part). p .len) (W .size-is)) ∙ exact-parts .0
 
   one-is : one b ≡ record { at = 4; stage = MethodDue; parts = record { size = record { start = 3; len = 1 }; method = nothing; entries = nothing } }
-  one-is = F .leads ∙ rw size-length
+  one-is = W .first .leads ∙ rw size-length
 
   method-length : partAt b 4 .len ≡ 1
   method-length =
       let e : partAt b (one b .at) ≡ partAt b 4 = rw one-is refl in
-      sym (ap (λ (p : Part). p .len) (parts-are .1 .0 ∙ e)) ∙ exact-parts .1 .0
+      sym (ap (λ (p : Part). p .len) (W .method-is ∙ e)) ∙ exact-parts .1 .0
 
   two-is : two b ≡ record { at = 8; stage = EntriesDue; parts = record { size = record { start = 3; len = 1 }; method = record { start = 7; len = 1 }; entries = nothing } }
-  two-is = S .leads ∙ rw (one-is, method-length)
+  two-is = W .second .leads ∙ rw (one-is, method-length)
 
   entries-length : 11 + partAt b 8 .len ≡ length b
   entries-length =
       let e : two b .at + 3 + partAt b (two b .at) .len ≡ 11 + partAt b 8 .len = rw two-is refl in
-      sym (parts-are .1 .1 ∙ e) ∙ exact-parts .1 .1
+      sym (end-is ∙ e) ∙ exact-parts .1 .1
 
   pub walk-is : walk b ≡ ended (length b)
   walk-is =
       let l : partAt b 8 .len ≡ length b - 11 = omega (arith, entries-length) in
       let z : 11 + (length b - 11) ≡ length b = omega (arith, entries-length) in
-      walk-steps b ∙ D .leads ∙ rw (two-is, l, z)
+      walk-steps b ∙ W .third .leads ∙ rw (two-is, l, z)
 
   pub request-is : request b ≡ record { size = getD b 3 0; method = getD b 7 0; entries = record { start = 11; len = length b - 11 } }
   unfolding request
@@ -254,7 +188,7 @@ module _ (b : List ℕ) (A : Accepted (check-record (length b) (walk b))) where
       let m : take 1 (drop 7 b) ≡ getD b 7 0 ∷ [] = take-more b 0 7 (omega (arith, entries-length)) in
       let rest : take (partAt b 8 .len) (drop 11 b) ≡ drop 11 b = take-all (partAt b 8 .len) (drop 11 b) (simp length-drop (omega (arith, entries-length))) in
       let nothing-left : drop (11 + partAt b 8 .len) b ≡ [] = rw entries-length (drop-length b) in
-      let f : b ≡ 0x01 ∷ 1 ∷ 0 ∷ getD b 3 0 ∷ drop 4 b = field-at b 0 small (F .whole) ∙ rw (F .tagged, size-length, n) in
-      let s : drop 4 b ≡ 0x02 ∷ 1 ∷ 0 ∷ getD b 7 0 ∷ drop 8 b = field-at b 4 small (rw at4 at (S .whole)) ∙ rw (rw at4 at (S .tagged), method-length, m) in
-      let d : drop 8 b ≡ 0x03 ∷ bytes 2 (length (drop 11 b)) ++ drop 11 b = field-at b 8 small (rw at8 at (D .whole)) ∙ rw (rw at8 at (D .tagged), rest, nothing-left, append-nil (drop 11 b)) in
+      let f : b ≡ 0x01 ∷ 1 ∷ 0 ∷ getD b 3 0 ∷ drop 4 b = field-at b 0 small (W .first .whole) ∙ rw (W .first .tagged, size-length, n) in
+      let s : drop 4 b ≡ 0x02 ∷ 1 ∷ 0 ∷ getD b 7 0 ∷ drop 8 b = field-at b 4 small (rw at4 at (W .second .whole)) ∙ rw (rw at4 at (W .second .tagged), method-length, m) in
+      let d : drop 8 b ≡ 0x03 ∷ bytes 2 (length (drop 11 b)) ++ drop 11 b = field-at b 8 small (rw at8 at (W .third .whole)) ∙ rw (rw at8 at (W .third .tagged), rest, nothing-left, append-nil (drop 11 b)) in
       f ∙ rw (entries-are, request-is, s, d)

@@ -1,4 +1,5 @@
 pub mod ReadBack
 pub mod ReadBackTheorem
 pub mod Records
+pub mod BrokenRecords
 pub mod ByteCalls

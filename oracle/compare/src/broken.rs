@@ -28,7 +28,7 @@ fn sound(rng: &mut Rng) -> Vec<u8> {
 }
 
 fn break_once(bytes: &mut Vec<u8>, rng: &mut Rng) {
-    match rng.below(16) {
+    match rng.below(17) {
         0 => bytes.truncate(rng.below(bytes.len() + 1)),
         1 => bytes.extend((0..1 + rng.below(9)).map(|_| rng.bits() as u8)),
         2 => bytes.resize(LONGEST - 2 + rng.below(5), 0),
@@ -45,6 +45,7 @@ fn break_once(bytes: &mut Vec<u8>, rng: &mut Rng) {
         10 | 11 => spoil(bytes, not_finite(rng), rng),
         12 | 13 => turn_bit(bytes, rng),
         14 => exchange_fields(bytes, rng),
+        15 => other_first_length(bytes, rng),
         _ => other_length(bytes, rng),
     }
 }
@@ -109,6 +110,18 @@ fn exchange_fields(bytes: &mut Vec<u8>, rng: &mut Rng) {
     }
 }
 
+/// Field 01 or 02 says truly that it is longer, or empty.
+fn other_first_length(bytes: &mut Vec<u8>, rng: &mut Rng) {
+    let start = rng.pick(&[0, 4]);
+    if bytes.len() < start + 4 {
+        return;
+    }
+    let length = rng.pick(&[0, 2, 3, 255]);
+    bytes[start + 1] = length;
+    let content = vec![1; length.into()];
+    bytes.splice(start + 3..start + 4, content);
+}
+
 /// Field 03 says truly that it is longer or shorter.
 fn other_length(bytes: &mut Vec<u8>, rng: &mut Rng) {
     let content = bytes.len().saturating_sub(ENTRIES);
@@ -127,18 +140,26 @@ fn other_length(bytes: &mut Vec<u8>, rng: &mut Rng) {
 #[cfg(test)]
 mod tests {
     use super::*;
-    use oracle::record::checked;
+    use oracle::record::{checked, Refusal, PAST_END, TAG_NOT_DUE};
     use std::collections::BTreeMap;
+
+    /// The number, with the field where it has one.
+    fn kind(refusal: Refusal) -> (u8, Option<u8>) {
+        let has_field = [PAST_END, TAG_NOT_DUE].contains(&refusal.number);
+        (refusal.number, has_field.then_some(refusal.place[0]))
+    }
 
     #[test]
     fn every_check_of_a_record_fails_often() {
         let mut rng = Rng::new(1, 0);
-        let mut seen: BTreeMap<u8, usize> = BTreeMap::new();
+        let mut seen: BTreeMap<(u8, Option<u8>), usize> = BTreeMap::new();
         for _ in 0..4000 {
             let refusal = checked(&record(&mut rng)).err();
-            *seen.entry(refusal.map_or(0, |r| r.number)).or_default() += 1;
+            *seen.entry(refusal.map_or((0, None), kind)).or_default() += 1;
         }
-        let often = |refusal: &u8| seen.get(refusal) > Some(&40);
-        assert!([0, 1, 2, 3, 4, 7, 8].iter().all(often), "{seen:?}");
+        let whole = [0, 1, 2, 3, 4, 7, 8].map(|number| (number, None));
+        let fields = [PAST_END, TAG_NOT_DUE].map(|r| [0, 1, 2].map(|field| (r, Some(field))));
+        let often = |kind: &(u8, Option<u8>)| seen.get(kind) > Some(&100);
+        assert!(whole.iter().chain(&fields.concat()).all(often), "{seen:?}");
     }
 }

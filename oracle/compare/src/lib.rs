@@ -13,5 +13,6 @@ mod port;
 mod records;
 mod report;
 mod run;
+mod small;
 
 pub use run::compare;

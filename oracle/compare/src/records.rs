@@ -15,13 +15,27 @@ pub fn answer(record: &[u8]) -> Vec<u8> {
     buffer
 }
 
+/// The lengths of buffers that are refused, 5.
+pub const OTHER_LENGTHS: [usize; 3] = [0, LONGEST_ANSWER - 1, LONGEST_ANSWER + 1];
+
+/// The refusals that come before 5.
+const BEFORE_BUFFER: &[usize] = &[1, 10, 11, 2, 3, 4];
+
 /// On a buffer of its own length, and now and then on one of another.
 pub fn calls(record: &[u8], reply: &Reply, rng: &mut Rng) -> Vec<Called> {
     let mut made = vec![own_length(record, reply)];
     if rng.below(4) == 0 {
-        made.push(other_length(record, reply, rng));
+        made.push(other_length(record, reply, rng.pick(&OTHER_LENGTHS)));
     }
     made
+}
+
+/// On a buffer of its own length and on one of `other`.
+pub fn both_lengths(record: &[u8], reply: &Reply, other: usize) -> [Called; 2] {
+    [
+        own_length(record, reply),
+        other_length(record, reply, other),
+    ]
 }
 
 /// The answer record is put at the buffer's front. Refusal, place and length are also handed back.
@@ -38,11 +52,11 @@ fn own_length(record: &[u8], reply: &Reply) -> Called {
     }
 }
 
-/// The buffer stays as it is and the length is 0: refusal 5, after 1 to 4.
-fn other_length(record: &[u8], reply: &Reply, rng: &mut Rng) -> Called {
-    let lent = filling(rng.pick(&[0, LONGEST_ANSWER - 1, LONGEST_ANSWER + 1]));
+/// The buffer stays as it is and the length is 0. An earlier refusal keeps its place.
+fn other_length(record: &[u8], reply: &Reply, length: usize) -> Called {
+    let lent = filling(length);
     let first = match refusal(reply) {
-        [number @ 1..=4, ..] => [number, 0, 0],
+        earlier if BEFORE_BUFFER.contains(&earlier[0]) => earlier,
         _ => [5, 0, 0],
     };
     let (port, _) = call(record, lent.clone());
@@ -81,6 +95,6 @@ mod tests {
                 seen.insert(called.refusal);
             }
         }
-        assert_eq!(seen, BTreeSet::from([0, 1, 2, 3, 4, 5, 7, 8, 9]));
+        assert_eq!(seen, BTreeSet::from([0, 1, 2, 3, 4, 5, 7, 8, 9, 10, 11]));
     }
 }

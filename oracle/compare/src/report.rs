@@ -2,8 +2,9 @@
 
 use crate::calls::Called;
 use crate::load_order::Alike;
+use crate::small;
 use oracle::generate::Case;
-use oracle::record::Reply;
+use oracle::record::{Reply, PAST_END, TAG_NOT_DUE};
 use oracle::table::NAMES;
 use std::collections::BTreeMap;
 use std::fmt;
@@ -24,16 +25,24 @@ struct Row {
     phase_two: u64,
 }
 
+/// Each small record is asked for on two buffers.
+const SMALL_DUE: usize = 2 * small::COUNT;
+
+/// A refusal's number, and the field if it has one.
+type Kind = (u8, Option<u8>);
+
 pub struct Report {
     began: Instant,
     runs: [[Row; RANGES.len()]; NAMES.len()],
     sizes: [u64; 49],
     last_blocks: u64,
-    broken: BTreeMap<usize, u64>,
+    broken: BTreeMap<Kind, u64>,
+    small: BTreeMap<Kind, u64>,
+    small_comparisons: usize,
     calls: BTreeMap<&'static str, BTreeMap<usize, u64>>,
     pairs: BTreeMap<Alike, u64>,
-    /// Index of the first, and how many.
-    differences: Option<(u64, usize)>,
+    /// Where the first was, and how many.
+    differences: Option<(String, usize)>,
 }
 
 impl Report {
@@ -44,6 +53,8 @@ impl Report {
             sizes: [0; 49],
             last_blocks: 0,
             broken: BTreeMap::new(),
+            small: BTreeMap::new(),
+            small_comparisons: 0,
             calls: BTreeMap::new(),
             pairs: BTreeMap::new(),
             differences: None,
@@ -65,8 +76,13 @@ impl Report {
         self.last_blocks += 1;
     }
 
-    pub fn broken(&mut self, refusal: u8) {
-        *self.broken.entry(refusal.into()).or_default() += 1;
+    pub fn broken(&mut self, reply: &Reply) {
+        *self.broken.entry(kind(reply)).or_default() += 1;
+    }
+
+    pub fn small(&mut self, reply: &Reply, comparisons: usize) {
+        *self.small.entry(kind(reply)).or_default() += 1;
+        self.small_comparisons += comparisons;
     }
 
     pub fn call(&mut self, called: &Called) {
@@ -78,13 +94,14 @@ impl Report {
         *self.pairs.entry(alike).or_default() += 1;
     }
 
-    pub fn difference(&mut self, index: u64) {
-        let (first, count) = self.differences.unwrap_or((index, 0));
-        self.differences = Some((first, count + 1));
+    pub fn difference(&mut self, at: &str) {
+        let (_, count) = self.differences.get_or_insert((at.to_string(), 0));
+        *count += 1;
     }
 
+    /// Also if a comparison is missing.
     pub fn differs(&self) -> bool {
-        self.differences.is_some()
+        self.differences.is_some() || self.small_comparisons != SMALL_DUE
     }
 
     pub fn has_enough(&self) -> bool {
@@ -92,7 +109,7 @@ impl Report {
     }
 
     fn count(&self) -> usize {
-        self.differences.map_or(0, |(_, count)| count)
+        self.differences.as_ref().map_or(0, |(_, count)| *count)
     }
 
     fn total(&self) -> u64 {
@@ -155,6 +172,21 @@ fn by_refusal(counts: &BTreeMap<usize, u64>) -> String {
     words.join(", ")
 }
 
+fn kind(reply: &Reply) -> Kind {
+    match &reply.outcome {
+        Err(r) if [PAST_END, TAG_NOT_DUE].contains(&r.number) => (r.number, Some(r.place[0])),
+        _ => (reply.refusal(), None),
+    }
+}
+
+fn by_kind(counts: &BTreeMap<Kind, u64>) -> String {
+    let word = |((number, field), n): (&Kind, &u64)| match field {
+        Some(field) => format!("{number} at {field}: {n}"),
+        None => format!("{number}: {n}"),
+    };
+    counts.iter().map(word).collect::<Vec<_>>().join(", ")
+}
+
 impl fmt::Display for Report {
     fn fmt(&self, f: &mut fmt::Formatter) -> fmt::Result {
         self.runs(f)?;
@@ -164,15 +196,35 @@ impl fmt::Display for Report {
             "last blocks on which SE90 and SE99 differ: {}",
             self.last_blocks
         )?;
-        writeln!(f, "broken records by refusal: {}", by_refusal(&self.broken))?;
+        writeln!(f, "broken records by refusal: {}", by_kind(&self.broken))?;
+        writeln!(
+            f,
+            "small broken records: {} of {SMALL_DUE} comparisons, by refusal: {}",
+            self.small_comparisons,
+            by_kind(&self.small)
+        )?;
         for (call, counts) in &self.calls {
             writeln!(f, "{call} by refusal: {}", by_refusal(counts))?;
         }
         let seconds = self.began.elapsed().as_secs_f64();
         writeln!(f, "{} runs in {seconds:.1} s", self.total())?;
-        if let Some((first, _)) = self.differences {
-            writeln!(f, "first difference at index {first}")?;
+        if let Some((first, _)) = &self.differences {
+            writeln!(f, "first difference at {first}")?;
+        } else if self.differs() {
+            writeln!(f, "not every small broken record was compared")?;
         }
         writeln!(f, "{} differences", self.count())
+    }
+}
+
+#[cfg(test)]
+mod tests {
+    use super::*;
+
+    #[test]
+    fn a_missing_comparison_is_no_agreement() {
+        let report = Report::new();
+        assert!(report.differs());
+        assert!(report.to_string().contains("not every small broken record"));
     }
 }

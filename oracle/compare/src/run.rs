@@ -1,8 +1,8 @@
-//! A comparison, index by index.
+//! A comparison, index by index, then of every small broken record.
 
 use crate::calls::Called;
 use crate::report::Report;
-use crate::{answer, broken, calls, draw, factor, last_block, load_order, records};
+use crate::{answer, broken, calls, draw, factor, last_block, load_order, records, small};
 use oracle::generate::rng::Rng;
 use oracle::generate::Case;
 use oracle::record::{matrix_record, reply, Reply};
@@ -14,15 +14,27 @@ use std::panic::catch_unwind;
 pub fn compare(seed: u64, indexes: Range<u64>) -> Report {
     let mut report = Report::new();
     for index in indexes {
-        for difference in compare_one(seed, index, &mut report) {
-            println!("{difference}");
-            report.difference(index);
+        let found = compare_one(seed, index, &mut report);
+        if told(&format!("index {index}"), found, &mut report) {
+            return report;
         }
-        if report.has_enough() {
-            break;
+    }
+    for (number, record) in small::records().iter().enumerate() {
+        let found = small_record(number, record, &mut report);
+        if told(&format!("small record {number}"), found, &mut report) {
+            return report;
         }
     }
     report
+}
+
+/// Whether there are enough differences.
+fn told(at: &str, differences: Vec<String>, report: &mut Report) -> bool {
+    for difference in differences {
+        println!("{difference}");
+        report.difference(at);
+    }
+    report.has_enough()
 }
 
 /// The differences, each with what is needed to repeat it.
@@ -94,10 +106,32 @@ fn broken_record(rng: &mut Rng, report: &mut Report) -> Vec<String> {
     let broken = broken::record(rng);
     let (reply, found) = record(&broken, rng, report);
     if let Some(reply) = reply {
-        report.broken(reply.refusal());
+        report.broken(&reply);
     }
     let said = |words: String| format!("broken record of {} bytes: {words}", broken.len());
     found.into_iter().map(said).collect()
+}
+
+/// The buffers of other lengths take turns.
+fn small_record(number: usize, record: &[u8], report: &mut Report) -> Vec<String> {
+    let Some(reply) = answered(record) else {
+        return vec![format!("small record {number}: the oracle panicked")];
+    };
+    let other = records::OTHER_LENGTHS[number % records::OTHER_LENGTHS.len()];
+    let made = records::both_lengths(record, &reply, other);
+    report.small(&reply, made.len());
+    let said = |words: String| format!("small record {number}, {}: {words}", shown(record));
+    noted(made, report).into_iter().map(said).collect()
+}
+
+/// The bytes, as far as a line has room.
+fn shown(record: &[u8]) -> String {
+    let bytes: Vec<String> = record
+        .iter()
+        .take(100)
+        .map(|b| format!("{b:02x}"))
+        .collect();
+    format!("{} bytes {}", record.len(), bytes.join(" "))
 }
 
 /// The oracle's answer, and the differences.
@@ -123,7 +157,9 @@ mod tests {
     fn the_port_answers_as_the_oracle_does() {
         let report = compare(7, 0..1000);
         assert!(!report.differs());
-        assert!(report.to_string().ends_with("\n0 differences\n"));
+        let words = report.to_string();
+        assert!(words.ends_with("\n0 differences\n"));
+        assert!(words.contains("\nsmall broken records: 56862 of 56862 comparisons, "));
     }
 
     /// A difference can be repeated by its seed and index alone.

@@ -1,7 +1,16 @@
-//! Checks 1 to 8 on a matrix record. 5 and 6 are about buffers and indexes, which it has none of.
+//! The checks of a matrix record, in documents 01's and 02's order: 1 (too long), 10 and 11 field by
+//! field, 1 (lengths, bytes after), 2, 3, 4, 7, 8. 5 and 6 are about buffers and indexes, which it has
+//! none of.
 
 use super::{LONGEST, MAX_N};
 use crate::{GMW81, SE99};
+
+pub const MALFORMED: u8 = 1;
+pub const PAST_END: u8 = 10;
+pub const TAG_NOT_DUE: u8 = 11;
+
+/// The tags due, in order: n, method, entries.
+pub const DUE: [u8; 3] = [0x01, 0x02, 0x03];
 
 /// A record that passes every check.
 #[derive(Clone, Debug, PartialEq)]
@@ -24,7 +33,7 @@ fn nowhere(number: u8) -> Refusal {
     }
 }
 
-/// The first check that fails, in document 01's order.
+/// The first check that fails.
 pub fn checked(record: &[u8]) -> Result<Input, Refusal> {
     let (n, method, content) = fields(record)?;
     if !(GMW81..=SE99).contains(&method) {
@@ -42,32 +51,48 @@ pub fn checked(record: &[u8]) -> Result<Input, Refusal> {
     Ok(Input { method, n, matrix })
 }
 
-/// Check 1: n, method and the content of field 03, whatever its length.
+/// Checks 1, 10 and 11: n, method and the content of field 03, whatever its length.
 pub fn fields(record: &[u8]) -> Result<(u8, u8, &[u8]), Refusal> {
     if record.len() > LONGEST {
-        return Err(nowhere(1));
+        return Err(nowhere(MALFORMED));
     }
-    in_order(record).ok_or(nowhere(1))
-}
-
-fn in_order(record: &[u8]) -> Option<(u8, u8, &[u8])> {
-    let (n, rest) = first_field(0x01, record)?;
-    let (method, rest) = first_field(0x02, rest)?;
-    let (entries, rest) = first_field(0x03, rest)?;
-    match (n, method, rest) {
-        ([n], [method], []) => Some((*n, *method, entries)),
-        _ => None,
+    match walk(record)? {
+        ([[n], [method], entries], []) => Ok((*n, *method, entries)),
+        _ => Err(nowhere(MALFORMED)),
     }
 }
 
-/// The content of the field that `bytes` begins with, and what follows it.
-fn first_field(tag: u8, bytes: &[u8]) -> Option<(&[u8], &[u8])> {
-    match bytes {
-        [first, low, high, rest @ ..] if *first == tag => {
-            rest.split_at_checked(u16::from_le_bytes([*low, *high]).into())
+type Contents<'a> = [&'a [u8]; DUE.len()];
+
+/// The content of each field due, and what follows the last. The first offending field decides.
+fn walk(record: &[u8]) -> Result<(Contents<'_>, &[u8]), Refusal> {
+    let mut contents: Contents = [&[]; DUE.len()];
+    let mut rest = record;
+    for (index, due) in DUE.into_iter().enumerate() {
+        let (tag, content, after) = first_field(rest).ok_or(at_field(PAST_END, index))?;
+        if tag != due {
+            return Err(at_field(TAG_NOT_DUE, index));
         }
-        _ => None,
+        contents[index] = content;
+        rest = after;
     }
+    Ok((contents, rest))
+}
+
+fn at_field(number: u8, index: usize) -> Refusal {
+    Refusal {
+        number,
+        place: [index as u8, 0],
+    }
+}
+
+/// Tag and content of the field that `bytes` begins with, and what follows it. Nothing if its header or
+/// its content runs past the end.
+fn first_field(bytes: &[u8]) -> Option<(u8, &[u8], &[u8])> {
+    let (header, rest) = bytes.split_at_checked(3)?;
+    let length = u16::from_le_bytes([header[1], header[2]]);
+    let (content, after) = rest.split_at_checked(length.into())?;
+    Some((header[0], content, after))
 }
 
 fn doubles(content: &[u8]) -> Vec<f64> {

@@ -41,10 +41,10 @@ fn the_list_is_the_same_again_and_of_its_size() {
     for ((entry, _), other) in CASES.iter().zip(&again) {
         assert_eq!((&entry.kind, &entry.record), (&other.kind, &other.record));
     }
-    assert!((300..=400).contains(&again.len()), "{}", again.len());
+    assert!((1300..=1500).contains(&again.len()), "{}", again.len());
     let framed = |(entry, reply): &(Entry, Reply)| framed(&entry.record, &reply.record()).len();
     let bytes: usize = CASES.iter().map(framed).sum();
-    assert!(bytes < 1_200_000, "{bytes}");
+    assert!(bytes < 1_300_000, "{bytes}");
 }
 
 #[test]
@@ -57,21 +57,78 @@ fn kinds_named_by_a_refusal_have_it() {
             seen.insert(number);
         }
     }
-    assert!(seen.into_iter().eq([1, 2, 3, 4, 7, 8, 9]));
+    assert!(seen.into_iter().eq([1, 2, 3, 4, 7, 8, 9, 10, 11]));
 }
 
 #[test]
 fn checks_come_in_order() {
-    let wanted = [1, 2, 2, 3, 3, 4].map(|number| (number, 0, 0));
-    assert_eq!(refusals("order of checks 1 to 4"), wanted);
+    let wanted = [(10, 2, 0), (11, 2, 0)]
+        .into_iter()
+        .chain([1, 1, 2, 2, 3, 3, 4].map(|number| (number, 0, 0)));
+    assert!(refusals(shape::ORDER).into_iter().eq(wanted));
+}
+
+/// The records of a kind.
+fn records(kind: &str) -> Vec<&[u8]> {
+    let own = CASES.iter().filter(|(entry, _)| entry.kind == kind);
+    own.map(|(entry, _)| &entry.record[..]).collect()
 }
 
 #[test]
-fn records_are_cut_at_every_byte_and_go_up_to_one_too_many() {
-    let lengths: BTreeSet<usize> = CASES.iter().map(|(e, _)| e.record.len()).collect();
-    assert!((0..=19).all(|length| lengths.contains(&length)));
-    assert_eq!(lengths.last(), Some(&(LONGEST + 1)));
-    assert_eq!(refusals("1: one byte too long"), [(1, 0, 0); 2]);
+fn records_are_cut_at_every_byte() {
+    let field = |end: usize| u8::from(end >= 4) + u8::from(end >= 8);
+    let ends = || (0..19).chain(4..43);
+    assert!(records(fields::CUT).iter().map(|r| r.len()).eq(ends()));
+    let wanted = ends().map(|end| (10, field(end), 0));
+    assert!(refusals(fields::CUT).into_iter().eq(wanted));
+}
+
+#[test]
+fn every_tag_stands_at_every_field() {
+    let pairs = records(fields::TAGS)
+        .into_iter()
+        .zip(refusals(fields::TAGS));
+    let seen: BTreeSet<(u8, u8)> = pairs
+        .map(|(record, (_, field, _))| (field, record[4 * usize::from(field)]))
+        .collect();
+    let all = (0..3).flat_map(|field| (0..=255).map(move |tag| (field, tag)));
+    assert!(seen
+        .into_iter()
+        .eq(all.filter(|(field, tag)| field + 1 != *tag)));
+}
+
+/// How often a kind has each field as its place.
+fn by_field(kind: &str) -> [usize; 3] {
+    let count = |field| refusals(kind).iter().filter(|r| r.1 == field).count();
+    [0, 1, 2].map(count)
+}
+
+#[test]
+fn the_first_offending_field_is_the_place() {
+    assert_eq!(by_field(fields::CUT_WITH_TAG), [3, 3, 10]);
+    assert_eq!(by_field(fields::PAST_END), [5, 6, 6]);
+    assert_eq!(by_field(fields::CUT_AFTER_LENGTH), [0, 8, 44]);
+    assert_eq!(by_field(fields::ORDERS), [5, 3, 1]);
+    assert_eq!(by_field(fields::LATER_FAULT), [20, 14, 1]);
+    assert_eq!(by_field(fields::TAG_AND_LENGTH), [2, 4, 4]);
+}
+
+#[test]
+fn no_broken_record_stands_there_twice() {
+    let broken = CASES
+        .iter()
+        .filter(|(_, reply)| [1, 10, 11].contains(&reply.refusal()));
+    let mut seen = BTreeSet::new();
+    for (entry, _) in broken {
+        assert!(seen.insert(&entry.record), "{}", entry.kind);
+    }
+}
+
+#[test]
+fn records_go_up_to_one_byte_too_many() {
+    let longest = CASES.iter().map(|(e, _)| e.record.len()).max();
+    assert_eq!(longest, Some(LONGEST + 1));
+    assert_eq!(refusals("1: one byte too long"), [(1, 0, 0); 3]);
 }
 
 #[test]

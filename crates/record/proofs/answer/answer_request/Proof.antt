@@ -39,5 +39,8 @@ answer-entries-requires c κs =
     let s = c .before .before .before .before .before .before .before .before in
     (s .pre, (omega (arith, c .before .before .before .before .a .given), omega (arith, c .before .before .before .l .given), omega (arith, c .before .before .work .given), omega (arith, c .before .e .given), omega (arith, c .p .given)))
 
+same-length : tie.Need-same-length
+same-length c = c .before .before .before .before .before .before .out .given
+
 pub answer-request-spec : {M : Type 1} → statement M
-answer-request-spec = tie.close (tie.spec mul-m (search needs) (search needs) part-a-end (search needs) (search needs) part-l-end (search needs) (search needs) part-work-end (search needs) (search needs) part-e-end (search needs) (search needs) part-p-end answer-entries-requires (search needs) (λ c. search needs))
+answer-request-spec = tie.close (tie.spec mul-m (search needs) (search needs) part-a-end (search needs) (search needs) part-l-end (search needs) (search needs) part-work-end (search needs) (search needs) part-e-end (search needs) (search needs) part-p-end answer-entries-requires same-length (λ c. search needs))

@@ -1,0 +1,248 @@
+-- What is broken in a record: the walk's verdict is what the call hands back, and it is told by the record's bytes.
+use mathlib.Core.Path.{_≡_, refl, sym, ap, subst, _∙_}
+use mathlib.Core.List.{List}
+use mathlib.Core.Bool.{Bool, true, false, cond, not, _&&_, _||_, true≢false}
+use mathlib.Core.Logic.{inl, inr, _↔_}
+use Prim.Native.Nat.{ℕ, _*_, _/_, _%_, _≤_, _<_}
+use native.Mathlib.Decide.{decLt}
+use native.Mathlib.Omega.{arith}
+use lib.ListN.{length}
+use lib.Dec.{eqb, leb, ltb}
+use borrow.Author.Tests.{eq-eqb, lt-ltb, le-ltb, eqb-true, eqb-false}
+use Rattle.arithmetic.specs.Outcome.{number, place, complete, refuse, _then_}
+use Rattle.arithmetic.specs.declared.outcome.Outcome.{Outcome}
+use Rattle.arithmetic.specs.declared.outcome.Outcome.the-variants.{Complete, MalformedRecord, UnknownMethod, SizeOutOfRange, MatrixLength, BufferLength, NotFinite, Unsymmetric, FieldPastEnd, TagNotDue}
+use Rattle.arithmetic.proofs.OrderLaws.{and-1, and-2}
+use Rattle.arithmetic.proofs.OutcomeLaws.{complete-is}
+use Rattle.arithmetic.proofs.Cases.{is, holds, fails}
+use Rattle.matrix.specs.Checks.{firstNotFinite, firstUnsymmetric}
+use Rattle.matrix.proofs.CheckLaws.{Accepted, then-keeps, refuse-keeps}
+use Rattle.answer_record.specs.AnswerRecord.{longestAnswer}
+use Rattle.record.specs.Cursor.{walk}
+use Rattle.record.specs.MatrixRecord.{matrix-record, request, entriesOf, longestRecord, check-walk, exact, check-exact, check-record, request-checks, byte-checks, record-checks}
+use Rattle.encoding.specs.Bytes.{doubles}
+use Rattle.encoding.specs.Writing.{over}
+use Rattle.record.specs.Record.{resultOf, answer, RecordCall, recordCall, record-call}
+use Rattle.whole_calls.specs.BrokenRecords.{lengthAt, fieldStart, Stands, Reached, PastEndAt, WrongTagAt, AllStand, RightLengths, Malformed, handedBack, isBroken, BrokenRecordsTheorem}
+use Rattle.record.specs.declared.cursor.Cursor.{Cursor}
+use Rattle.record.proofs.Walk.{walk-steps}
+use Rattle.record.proofs.Answers.{refused-outcome, accepted-number}
+use Rattle.whole_calls.proofs.MatrixRecord.{record-well-formed, accepted-length, well-formed-is}
+use Rattle.whole_calls.proofs.Walked.{Walked, walked, three, cut-in, tag-in}
+
+-- ---- the first offending field is one field
+abbrev Offends : List ℕ → ℕ → Type 0
+Offends b i = Reached b i × (Stands b i → ⊥)
+
+past-offends : (b : List ℕ) (i : ℕ) → PastEndAt b i → Offends b i
+past-offends b i p = (p .0, λ s. omega (arith, s .0, p .1))
+
+tag-offends : (b : List ℕ) (i : ℕ) → WrongTagAt b i → Offends b i
+tag-offends b i p = (p .0, λ s. p .2 (s .1))
+
+same-field : (b : List ℕ) (i j : ℕ) → Offends b i → Offends b j → i ≡ j
+same-field b i j p q = elim (decLt i j) [
+  | yes h ↦ absurd (p .1 (q .0 .1 i h))
+  | no h ↦ elim (decLt j i) [ yes k ↦ absurd (q .1 (p .0 .1 j k)) | no k ↦ omega arith ]
+]
+
+-- ---- what check 1 says, with 10 and 11
+abbrev verdict : List ℕ → Outcome
+verdict b = check-record (length b) (walk b)
+
+data Judged (b : List ℕ) (o : Outcome) : Type 0 where
+  long : longestRecord < length b → o ≡ MalformedRecord → Judged b o
+  cut : (i : ℕ) → length b ≤ longestRecord → PastEndAt b i → o ≡ FieldPastEnd i → Judged b o
+  tagged : (i : ℕ) → length b ≤ longestRecord → WrongTagAt b i → o ≡ TagNotDue i → Judged b o
+  wrong : length b ≤ longestRecord → AllStand b → (RightLengths b → ⊥) → o ≡ MalformedRecord → Judged b o
+  sound : length b ≤ longestRecord → AllStand b → RightLengths b → Accepted (verdict b) → isBroken o ≡ false → Judged b o
+
+module _ (b : List ℕ) where
+  too-long : longestRecord < length b → verdict b ≡ MalformedRecord
+  unfolding check-record _then_
+  too-long h = rw (lt-ltb longestRecord (length b) h)
+
+  module _ (h : length b ≤ longestRecord) where
+    stopped : (o : Outcome) → complete o ≡ false → check-walk (walk b .stage) ≡ o → verdict b ≡ o
+    unfolding check-record _then_
+    stopped o c e = rw (le-ltb longestRecord (length b) h, e, c)
+
+    went-on : check-walk (walk b .stage) ≡ Complete → verdict b ≡ check-exact (walk b) (length b)
+    unfolding check-record _then_
+    went-on e = rw (le-ltb longestRecord (length b) h, e)
+
+judged : (b : List ℕ) → Judged b (verdict b)
+judged b = elim (decLt longestRecord (length b)) [
+  | yes h ↦ long h (too-long b h)
+  | no n ↦ let h : length b ≤ longestRecord = omega arith in walk-judged h (walked b)
+]
+  where
+    walk-judged : length b ≤ longestRecord → Walked b → Judged b (verdict b)
+    walk-judged h (cut-in i p e) = cut i h p (stopped b h (FieldPastEnd i) refl (ap check-walk e))
+    walk-judged h (tag-in i found p e) = tagged i h p (stopped b h (TagNotDue i) refl (ap check-walk e))
+    walk-judged h (three t) =
+        let done : check-walk (walk b .stage) ≡ Complete = ap (λ (c : Cursor). check-walk (c .stage)) (walk-steps b ∙ t .third .leads) in
+        let v = went-on b h done in
+        let x = eqb (lengthAt b (fieldStart b 0)) 1 in
+        let y = eqb (lengthAt b (fieldStart b 1)) 1 in
+        let z = eqb (fieldStart b 3) (length b) in
+        let e : exact (walk b) (length b) ≡ (x && (y && z)) = rw (t .size-length, t .method-length, t .end-is) in
+        elim (is (x && (y && z))) [
+          | holds r ↦
+              let c : verdict b ≡ Complete = v ∙ rw (e ∙ r) refl in
+              let s = and-2 x (y && z) r in
+              sound h (t .stand) (eqb-true _ _ (and-1 x (y && z) r), eqb-true _ _ (and-1 y z s), eqb-true _ _ (and-2 y z s)) (record { is = ap complete c }) (ap isBroken c)
+          | fails r ↦ wrong h (t .stand) (λ l. true≢false (sym (rw (eq-eqb _ _ (l .0), eq-eqb _ _ (l .1), eq-eqb _ _ (l .2)) refl) ∙ r)) (v ∙ rw (e ∙ r) refl)
+        ]
+
+-- ---- none of 1, 10 and 11
+record Unbroken (o : Outcome) : Type 0 where
+  is-not : isBroken o ≡ false
+
+refusal-unbroken : (bad : Bool) (o : Outcome) → isBroken o ≡ false → Unbroken (refuse bad o)
+refusal-unbroken bad o e = refuse-keeps Unbroken bad o (record { is-not = refl }) (λ _. record { is-not = e })
+
+infixl 1 _also_
+_also_ : {o rest : Outcome} → Unbroken o → Unbroken rest → Unbroken (o then rest)
+p also q = then-keeps Unbroken _ _ p (λ _. q)
+
+-- ---- the verdict is what the call hands back: where it is no refusal, neither are the later checks and the run one of these three
+module _ (b : List ℕ) where
+  first-decides : (room : ℕ) → complete (verdict b) ≡ false → record-checks b room ≡ verdict b
+  unfolding record-checks byte-checks _then_
+  first-decides room h = rw (h, h)
+
+  -- with a buffer of the answer's length, and with another
+  abbrev own : List ℕ → RecordCall
+  own out = recordCall (resultOf b .decomposition .outcome) (length (answer b)) (over out 0 (answer b))
+
+  abbrev other : List ℕ → RecordCall
+  other out = recordCall (record-checks b (length out)) 0 out
+
+  handed-own : (out : List ℕ) → eqb (length out) longestAnswer ≡ true → handedBack b out ≡ resultOf b .decomposition .outcome
+  unfolding record-call
+  handed-own out e = ap (λ (t : Bool). cond t (own out) (other out) .handed .outcome) e
+
+  handed-other : (out : List ℕ) → eqb (length out) longestAnswer ≡ false → handedBack b out ≡ record-checks b (length out)
+  unfolding record-call
+  handed-other out e = ap (λ (t : Bool). cond t (own out) (other out) .handed .outcome) e
+
+  handed-first : (out : List ℕ) → complete (verdict b) ≡ false → handedBack b out ≡ verdict b
+  handed-first out h =
+      let d = first-decides longestAnswer h in
+      elim (is (eqb (length out) longestAnswer)) [
+        | holds e ↦ handed-own out e ∙ refused-outcome b (ap complete d ∙ h) ∙ d
+        | fails e ↦ handed-other out e ∙ first-decides (length out) h
+      ]
+
+  later-checks : (room : ℕ) → complete (verdict b) ≡ true → Unbroken (record-checks b room)
+  unfolding record-checks byte-checks request-checks
+  later-checks room h =
+      let n = request b .size in
+      let m = request b .method in
+      let xs = doubles (entriesOf b) in
+      let f = firstNotFinite xs in
+      let g = firstUnsymmetric n xs in
+      let method = refusal-unbroken (not (leb 1 m && leb m 3)) UnknownMethod refl in
+      let size = refusal-unbroken (eqb n 0 || ltb 48 n) SizeOutOfRange refl in
+      let entries = refusal-unbroken (not (eqb (length (entriesOf b)) (8 * (n * n)))) MatrixLength refl in
+      let buffer = refusal-unbroken (not (eqb room longestAnswer)) BufferLength refl in
+      let finite = refusal-unbroken (ltb f (length xs)) (NotFinite (f / n) (f % n)) refl in
+      let symmetric = refusal-unbroken (ltb g (n * n)) (Unsymmetric (g / n) (g % n)) refl in
+      (record { is-not = ap isBroken (complete-is (verdict b) h) } also (method also size also entries also buffer also finite)) also symmetric
+
+  later-result : complete (verdict b) ≡ true → Unbroken (resultOf b .decomposition .outcome)
+  later-result h = elim (is (complete (record-checks b longestAnswer))) [
+    | holds c ↦ elim (accepted-number b c) [ inl e ↦ record { is-not = rw e } | inr e ↦ record { is-not = rw e } ]
+    | fails c ↦ rw (refused-outcome b c) (later-checks longestAnswer h)
+  ]
+
+  handed-later : (out : List ℕ) → complete (verdict b) ≡ true → Unbroken (handedBack b out)
+  handed-later out h = elim (is (eqb (length out) longestAnswer)) [
+    | holds e ↦ rw (handed-own out e) (later-result h)
+    | fails e ↦ rw (handed-other out e) (later-checks (length out) h)
+  ]
+
+handed-judged : (b out : List ℕ) → Judged b (handedBack b out)
+handed-judged b out = go (judged b)
+  where
+    go : Judged b (verdict b) → Judged b (handedBack b out)
+    go (long h e) = long h (handed-first b out (ap complete e) ∙ e)
+    go (cut i h p e) = cut i h p (handed-first b out (ap complete e) ∙ e)
+    go (tagged i h p e) = tagged i h p (handed-first b out (ap complete e) ∙ e)
+    go (wrong h s w e) = wrong h s w (handed-first b out (ap complete e) ∙ e)
+    go (sound h s r A u) = sound h s r A (handed-later b out (A .is) .is-not)
+
+-- ---- the theorem: one verdict holds, and none beside it
+-- outcomes with other numbers differ
+differ : {A : Type 0} (o p q : Outcome) → o ≡ p → o ≡ q → eqb (number p) (number q) ≡ false → A
+differ o p q e f n = absurd (eqb-false (number p) (number q) n (ap number (sym e ∙ f)))
+
+module _ (b : List ℕ) (o : Outcome) where
+  past-end-told : length b ≤ longestRecord → (i : ℕ) → Judged b o → o ≡ FieldPastEnd i ↔ PastEndAt b i
+  past-end-told h i (long l e) = absurd (omega arith)
+  past-end-told h i (cut j _ p e) = (
+    λ f. let s : j ≡ i = ap (λ (x : Outcome). place x .row) (sym e ∙ f) in rw (← s) p,
+    λ q. e ∙ ap FieldPastEnd (same-field b j i (past-offends b j p) (past-offends b i q)),
+  )
+  past-end-told h i (tagged j _ p e) = (
+    λ f. differ o (TagNotDue j) (FieldPastEnd i) e f refl,
+    λ q. let s = same-field b j i (tag-offends b j p) (past-offends b i q) in absurd (let w = rw s at p in omega (arith, w .1, q .1)),
+  )
+  past-end-told h i (wrong _ s w e) = (λ f. differ o MalformedRecord (FieldPastEnd i) e f refl, λ q. absurd (past-offends b i q .1 (s i (q .0 .0))))
+  past-end-told h i (sound _ s r A u) = (λ f. absurd (true≢false (ap isBroken (sym f) ∙ u)), λ q. absurd (past-offends b i q .1 (s i (q .0 .0))))
+
+  wrong-tag-told : length b ≤ longestRecord → (i : ℕ) → Judged b o → o ≡ TagNotDue i ↔ WrongTagAt b i
+  wrong-tag-told h i (long l e) = absurd (omega arith)
+  wrong-tag-told h i (cut j _ p e) = (
+    λ f. differ o (FieldPastEnd j) (TagNotDue i) e f refl,
+    λ q. let s = same-field b j i (past-offends b j p) (tag-offends b i q) in absurd (let w = rw s at p in omega (arith, w .1, q .1)),
+  )
+  wrong-tag-told h i (tagged j _ p e) = (
+    λ f. let s : j ≡ i = ap (λ (x : Outcome). place x .row) (sym e ∙ f) in rw (← s) p,
+    λ q. e ∙ ap TagNotDue (same-field b j i (tag-offends b j p) (tag-offends b i q)),
+  )
+  wrong-tag-told h i (wrong _ s w e) = (λ f. differ o MalformedRecord (TagNotDue i) e f refl, λ q. absurd (tag-offends b i q .1 (s i (q .0 .0))))
+  wrong-tag-told h i (sound _ s r A u) = (λ f. absurd (true≢false (ap isBroken (sym f) ∙ u)), λ q. absurd (tag-offends b i q .1 (s i (q .0 .0))))
+
+  -- where a field offends, not all three stand
+  offends-not : (i : ℕ) → length b ≤ longestRecord → Offends b i → Malformed b → ⊥
+  offends-not i h p (inl l) = omega arith
+  offends-not i h p (inr s) = p .1 (s .0 i (p .0 .0))
+
+  lengths-not : length b ≤ longestRecord → RightLengths b → Malformed b → ⊥
+  lengths-not h r (inl l) = omega arith
+  lengths-not h r (inr s) = s .1 r
+
+  malformed-told : Judged b o → o ≡ MalformedRecord ↔ Malformed b
+  malformed-told (long l e) = (λ _. inl l, λ _. e)
+  malformed-told (cut i h p e) = (λ f. differ o (FieldPastEnd i) MalformedRecord e f refl, λ m. absurd (offends-not i h (past-offends b i p) m))
+  malformed-told (tagged i h p e) = (λ f. differ o (TagNotDue i) MalformedRecord e f refl, λ m. absurd (offends-not i h (tag-offends b i p) m))
+  malformed-told (wrong h s w e) = (λ _. inr (s, w), λ _. e)
+  malformed-told (sound h s r A u) = (λ f. absurd (true≢false (ap isBroken (sym f) ∙ u)), λ m. absurd (lengths-not h r m))
+
+  unbroken-accepted : Judged b o → isBroken o ≡ false → Accepted (verdict b)
+  unbroken-accepted (long l e) u = absurd (true≢false (ap isBroken (sym e) ∙ u))
+  unbroken-accepted (cut i h p e) u = absurd (true≢false (ap isBroken (sym e) ∙ u))
+  unbroken-accepted (tagged i h p e) u = absurd (true≢false (ap isBroken (sym e) ∙ u))
+  unbroken-accepted (wrong h s w e) u = absurd (true≢false (ap isBroken (sym e) ∙ u))
+  unbroken-accepted (sound h s r A _) u = A
+
+-- the record of its own parts passes check 1
+own-record : (b : List ℕ) → length b ≤ longestRecord → b ≡ matrix-record (request b .size) (request b .method) (entriesOf b) → complete (verdict b) ≡ true
+own-record b h e =
+    let r = matrix-record (request b .size) (request b .method) (entriesOf b) in
+    subst (λ (x : List ℕ). complete (check-record (length x) (walk x)) ≡ true) (sym e) (record-well-formed (request b .size) (request b .method) (entriesOf b) (rw (← e) h) .is)
+
+pub broken-records : BrokenRecordsTheorem
+broken-records b out =
+    let j = handed-judged b out in
+    record {
+      past-end = λ h i. past-end-told b (handedBack b out) h i j;
+      wrong-tag = λ h i. wrong-tag-told b (handedBack b out) h i j;
+      malformed = malformed-told b (handedBack b out) j;
+      otherwise = λ small. (
+        λ u. let A = unbroken-accepted b (handedBack b out) j u in (accepted-length b A, well-formed-is b A small),
+        λ e. handed-later b out (own-record b (e .0) (e .1)) .is-not,
+      );
+    }
