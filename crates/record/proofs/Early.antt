@@ -25,7 +25,7 @@ use Rattle.record.specs.declared.cursor.Stage.{Stage}
 use Rattle.record.specs.declared.cursor.Stage.the-variants.{SizeDue, MethodDue, EntriesDue, Done, PastEnd, WrongTag}
 use Rattle.record.specs.declared.read.Request.{Request}
 use Rattle.record.proofs.Accepted.{Sized, sized, request-accepted}
-use Rattle.record.proofs.Walk.{StopsBelow, walk-below}
+use Rattle.record.proofs.Walk.{stoppedAt, walk-at-most}
 
 pub record Early (o : Outcome) : Type 0 where
   pub number-is : number o ≡ 9 → ⊥
@@ -47,7 +47,7 @@ cell-fits n k some small h = (omega (arith, div-lt-iff-lt-mul some .1 h), omega 
 malformed-early : Early MalformedRecord
 malformed-early = record { number-is = λ e. omega (arith, e); placed = zeros }
 
-walk-early : (s : Stage) → StopsBelow 3 s → Early (check-walk s)
+walk-early : (s : Stage) → stoppedAt s ≤ 2 → Early (check-walk s)
 walk-early SizeDue h = malformed-early
 walk-early MethodDue h = malformed-early
 walk-early EntriesDue h = malformed-early
@@ -55,7 +55,7 @@ walk-early Done h = complete-early
 walk-early (PastEnd field) h = record { number-is = λ e. omega (arith, e); placed = (omega (arith, h), omega arith) }
 walk-early (WrongTag field found) h = record { number-is = λ e. omega (arith, e); placed = (omega (arith, h), omega arith) }
 
-fields-early : (len : ℕ) (c : Cursor) → StopsBelow 3 (c .stage) → Early (check-record len c)
+fields-early : (len : ℕ) (c : Cursor) → stoppedAt (c .stage) ≤ 2 → Early (check-record len c)
 unfolding check-record
 fields-early len c h =
     then-keeps Early _ _ (then-keeps Early _ _ (refuse-early (ltb longestRecord len) MalformedRecord refl (λ _. zeros)) (λ _. walk-early (c .stage) h))
@@ -92,7 +92,7 @@ module _ (r : Request) (room : ℕ) (entries : List ℕ) where
 module _ (b : List ℕ) (room : ℕ) where
   pub bytes-early : Early (byte-checks b room)
   unfolding byte-checks
-  bytes-early = then-keeps Early _ _ (fields-early (length b) (walk b) (walk-below b)) (λ _. request-early (request b) room (entriesOf b))
+  bytes-early = then-keeps Early _ _ (fields-early (length b) (walk b) (walk-at-most b)) (λ _. request-early (request b) room (entriesOf b))
 
   pub bytes-parts : Accepted (byte-checks b room) → Accepted (request-checks (request b) room (entriesOf b))
   unfolding byte-checks

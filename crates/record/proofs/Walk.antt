@@ -80,42 +80,37 @@ pub walk-steps : (b : List ℕ) → walk b ≡ passField b 2 (passField b 1 (pas
 unfolding walk range times
 walk-steps b = refl
 
--- where a walk stopped at a field, its index is below m
-abbrev pub StopsBelow : ℕ → Stage → Type 0
-StopsBelow m SizeDue = Unit {0}
-StopsBelow m MethodDue = Unit {0}
-StopsBelow m EntriesDue = Unit {0}
-StopsBelow m Done = Unit {0}
-StopsBelow m (PastEnd field) = field < m
-StopsBelow m (WrongTag field found) = field < m
+-- the index of the field at which a walk stopped, if it did
+abbrev pub stoppedAt : Stage → ℕ
+stoppedAt SizeDue = 0
+stoppedAt MethodDue = 0
+stoppedAt EntriesDue = 0
+stoppedAt Done = 0
+stoppedAt (PastEnd field) = field
+stoppedAt (WrongTag field found) = field
 
-weaker : (k : ℕ) (s : Stage) → StopsBelow k s → StopsBelow (suc k) s
-weaker k SizeDue h = tt
-weaker k MethodDue h = tt
-weaker k EntriesDue h = tt
-weaker k Done h = tt
-weaker k (PastEnd field) h = omega (arith, h)
-weaker k (WrongTag field found) h = omega (arith, h)
+expect-stops : (k tag due : ℕ) (next : Stage) → stoppedAt next ≤ k → stoppedAt (expect k tag due next) ≤ k
+expect-stops k tag due next h = elim (is (eqb tag due)) [ holds e ↦ rw e h | fails e ↦ rw e (omega arith) ]
 
-expect-below : (k tag due : ℕ) (next : Stage) → StopsBelow (suc k) next → StopsBelow (suc k) (expect k tag due next)
-expect-below k tag due next h = elim (is (eqb tag due)) [ holds e ↦ rw e h | fails e ↦ rw e (omega arith) ]
+after-stops : (k : ℕ) (s : Stage) (tag : ℕ) → stoppedAt s ≤ k → stoppedAt (after k s tag) ≤ k
+after-stops k SizeDue tag h = expect-stops k tag 0x01 MethodDue h
+after-stops k MethodDue tag h = expect-stops k tag 0x02 EntriesDue h
+after-stops k EntriesDue tag h = expect-stops k tag 0x03 Done h
+after-stops k Done tag h = h
+after-stops k (PastEnd field) tag h = h
+after-stops k (WrongTag field found) tag h = h
 
-after-below : (k : ℕ) (s : Stage) (tag : ℕ) → StopsBelow k s → StopsBelow (suc k) (after k s tag)
-after-below k SizeDue tag h = expect-below k tag 0x01 MethodDue tt
-after-below k MethodDue tag h = expect-below k tag 0x02 EntriesDue tt
-after-below k EntriesDue tag h = expect-below k tag 0x03 Done tt
-after-below k Done tag h = tt
-after-below k (PastEnd field) tag h = weaker k (PastEnd field) h
-after-below k (WrongTag field found) tag h = weaker k (WrongTag field found) h
-
-step-below : (b : List ℕ) (k : ℕ) (c : Cursor) → StopsBelow k (c .stage) → StopsBelow (suc k) (passField b k c .stage)
-step-below b k c h = elim (is (nothingDue (c .stage))) [
-  | holds n ↦ rw (step-stays b k c n) (weaker k (c .stage) h)
+step-at-most : (b : List ℕ) (k : ℕ) (c : Cursor) → stoppedAt (c .stage) ≤ k → stoppedAt (passField b k c .stage) ≤ k
+step-at-most b k c h = elim (is (nothingDue (c .stage))) [
+  | holds n ↦ rw (step-stays b k c n) h
   | fails n ↦ elim (is (cut b (c .at))) [
     | holds e ↦ rw (step-stops b k c n e) (omega arith)
-    | fails e ↦ rw (step-passes b k c n e) (after-below k (c .stage) (getD b (c .at) 0) h)
+    | fails e ↦ rw (step-passes b k c n e) (after-stops k (c .stage) (getD b (c .at) 0) h)
   ]
 ]
 
-pub walk-below : (b : List ℕ) → StopsBelow 3 (walk b .stage)
-walk-below b = rw (walk-steps b) (step-below b 2 _ (step-below b 1 _ (step-below b 0 walkStart tt)))
+pub walk-at-most : (b : List ℕ) → stoppedAt (walk b .stage) ≤ 2
+walk-at-most b =
+    let one = step-at-most b 0 walkStart (omega arith) in
+    let two = step-at-most b 1 (passField b 0 walkStart) (omega (arith, one)) in
+    rw (walk-steps b) (step-at-most b 2 (passField b 1 (passField b 0 walkStart)) (omega (arith, two)))

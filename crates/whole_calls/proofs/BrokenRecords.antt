@@ -51,10 +51,9 @@ abbrev verdict : List ℕ → Outcome
 verdict b = check-record (length b) (walk b)
 
 data Judged (b : List ℕ) (o : Outcome) : Type 0 where
-  long : longestRecord < length b → o ≡ MalformedRecord → Judged b o
+  malformed : Malformed b → o ≡ MalformedRecord → Judged b o
   cut : (i : ℕ) → length b ≤ longestRecord → PastEndAt b i → o ≡ FieldPastEnd i → Judged b o
   tagged : (i : ℕ) → length b ≤ longestRecord → WrongTagAt b i → o ≡ TagNotDue i → Judged b o
-  wrong : length b ≤ longestRecord → AllStand b → (RightLengths b → ⊥) → o ≡ MalformedRecord → Judged b o
   sound : length b ≤ longestRecord → AllStand b → RightLengths b → Accepted (verdict b) → isBroken o ≡ false → Judged b o
 
 module _ (b : List ℕ) where
@@ -73,7 +72,7 @@ module _ (b : List ℕ) where
 
 judged : (b : List ℕ) → Judged b (verdict b)
 judged b = elim (decLt longestRecord (length b)) [
-  | yes h ↦ long h (too-long b h)
+  | yes h ↦ malformed (inl h) (too-long b h)
   | no n ↦ let h : length b ≤ longestRecord = omega arith in walk-judged h (walked b)
 ]
   where
@@ -92,7 +91,7 @@ judged b = elim (decLt longestRecord (length b)) [
               let c : verdict b ≡ Complete = v ∙ rw (e ∙ r) refl in
               let s = and-2 x (y && z) r in
               sound h (t .stand) (eqb-true _ _ (and-1 x (y && z) r), eqb-true _ _ (and-1 y z s), eqb-true _ _ (and-2 y z s)) (record { is = ap complete c }) (ap isBroken c)
-          | fails r ↦ wrong h (t .stand) (λ l. true≢false (sym (rw (eq-eqb _ _ (l .0), eq-eqb _ _ (l .1), eq-eqb _ _ (l .2)) refl) ∙ r)) (v ∙ rw (e ∙ r) refl)
+          | fails r ↦ malformed (inr (t .stand, λ l. true≢false (sym (rw (eq-eqb _ _ (l .0), eq-eqb _ _ (l .1), eq-eqb _ _ (l .2)) refl) ∙ r))) (v ∙ rw (e ∙ r) refl)
         ]
 
 -- ---- none of 1, 10 and 11
@@ -167,10 +166,9 @@ handed-judged : (b out : List ℕ) → Judged b (handedBack b out)
 handed-judged b out = go (judged b)
   where
     go : Judged b (verdict b) → Judged b (handedBack b out)
-    go (long h e) = long h (handed-first b out (ap complete e) ∙ e)
+    go (malformed m e) = malformed m (handed-first b out (ap complete e) ∙ e)
     go (cut i h p e) = cut i h p (handed-first b out (ap complete e) ∙ e)
     go (tagged i h p e) = tagged i h p (handed-first b out (ap complete e) ∙ e)
-    go (wrong h s w e) = wrong h s w (handed-first b out (ap complete e) ∙ e)
     go (sound h s r A u) = sound h s r A (handed-later b out (A .is) .is-not)
 
 -- ---- the theorem: one verdict holds, and none beside it
@@ -179,33 +177,7 @@ differ : {A : Type 0} (o p q : Outcome) → o ≡ p → o ≡ q → eqb (number 
 differ o p q e f n = absurd (eqb-false (number p) (number q) n (ap number (sym e ∙ f)))
 
 module _ (b : List ℕ) (o : Outcome) where
-  past-end-told : length b ≤ longestRecord → (i : ℕ) → Judged b o → o ≡ FieldPastEnd i ↔ PastEndAt b i
-  past-end-told h i (long l e) = absurd (omega arith)
-  past-end-told h i (cut j _ p e) = (
-    λ f. let s : j ≡ i = ap (λ (x : Outcome). place x .row) (sym e ∙ f) in rw (← s) p,
-    λ q. e ∙ ap FieldPastEnd (same-field b j i (past-offends b j p) (past-offends b i q)),
-  )
-  past-end-told h i (tagged j _ p e) = (
-    λ f. differ o (TagNotDue j) (FieldPastEnd i) e f refl,
-    λ q. let s = same-field b j i (tag-offends b j p) (past-offends b i q) in absurd (let w = rw s at p in omega (arith, w .1, q .1)),
-  )
-  past-end-told h i (wrong _ s w e) = (λ f. differ o MalformedRecord (FieldPastEnd i) e f refl, λ q. absurd (past-offends b i q .1 (s i (q .0 .0))))
-  past-end-told h i (sound _ s r A u) = (λ f. absurd (true≢false (ap isBroken (sym f) ∙ u)), λ q. absurd (past-offends b i q .1 (s i (q .0 .0))))
-
-  wrong-tag-told : length b ≤ longestRecord → (i : ℕ) → Judged b o → o ≡ TagNotDue i ↔ WrongTagAt b i
-  wrong-tag-told h i (long l e) = absurd (omega arith)
-  wrong-tag-told h i (cut j _ p e) = (
-    λ f. differ o (FieldPastEnd j) (TagNotDue i) e f refl,
-    λ q. let s = same-field b j i (past-offends b j p) (tag-offends b i q) in absurd (let w = rw s at p in omega (arith, w .1, q .1)),
-  )
-  wrong-tag-told h i (tagged j _ p e) = (
-    λ f. let s : j ≡ i = ap (λ (x : Outcome). place x .row) (sym e ∙ f) in rw (← s) p,
-    λ q. e ∙ ap TagNotDue (same-field b j i (tag-offends b j p) (tag-offends b i q)),
-  )
-  wrong-tag-told h i (wrong _ s w e) = (λ f. differ o MalformedRecord (TagNotDue i) e f refl, λ q. absurd (tag-offends b i q .1 (s i (q .0 .0))))
-  wrong-tag-told h i (sound _ s r A u) = (λ f. absurd (true≢false (ap isBroken (sym f) ∙ u)), λ q. absurd (tag-offends b i q .1 (s i (q .0 .0))))
-
-  -- where a field offends, not all three stand
+  -- where one field offends, not all three stand
   offends-not : (i : ℕ) → length b ≤ longestRecord → Offends b i → Malformed b → ⊥
   offends-not i h p (inl l) = omega arith
   offends-not i h p (inr s) = p .1 (s .0 i (p .0 .0))
@@ -214,24 +186,45 @@ module _ (b : List ℕ) (o : Outcome) where
   lengths-not h r (inl l) = omega arith
   lengths-not h r (inr s) = s .1 r
 
+  past-end-told : length b ≤ longestRecord → (i : ℕ) → Judged b o → o ≡ FieldPastEnd i ↔ PastEndAt b i
+  past-end-told h i (malformed m e) = (λ f. differ o MalformedRecord (FieldPastEnd i) e f refl, λ q. absurd (offends-not i h (past-offends b i q) m))
+  past-end-told h i (cut j _ p e) = (
+    λ f. let s : j ≡ i = ap (λ (x : Outcome). place x .row) (sym e ∙ f) in rw (← s) p,
+    λ q. e ∙ ap FieldPastEnd (same-field b j i (past-offends b j p) (past-offends b i q)),
+  )
+  past-end-told h i (tagged j _ p e) = (
+    λ f. differ o (TagNotDue j) (FieldPastEnd i) e f refl,
+    λ q. let s = same-field b j i (tag-offends b j p) (past-offends b i q) in absurd (let w = rw s at p in omega (arith, w .1, q .1)),
+  )
+  past-end-told h i (sound _ s r A u) = (λ f. absurd (true≢false (ap isBroken (sym f) ∙ u)), λ q. absurd (past-offends b i q .1 (s i (q .0 .0))))
+
+  wrong-tag-told : length b ≤ longestRecord → (i : ℕ) → Judged b o → o ≡ TagNotDue i ↔ WrongTagAt b i
+  wrong-tag-told h i (malformed m e) = (λ f. differ o MalformedRecord (TagNotDue i) e f refl, λ q. absurd (offends-not i h (tag-offends b i q) m))
+  wrong-tag-told h i (cut j _ p e) = (
+    λ f. differ o (FieldPastEnd j) (TagNotDue i) e f refl,
+    λ q. let s = same-field b j i (past-offends b j p) (tag-offends b i q) in absurd (let w = rw s at p in omega (arith, w .1, q .1)),
+  )
+  wrong-tag-told h i (tagged j _ p e) = (
+    λ f. let s : j ≡ i = ap (λ (x : Outcome). place x .row) (sym e ∙ f) in rw (← s) p,
+    λ q. e ∙ ap TagNotDue (same-field b j i (tag-offends b j p) (tag-offends b i q)),
+  )
+  wrong-tag-told h i (sound _ s r A u) = (λ f. absurd (true≢false (ap isBroken (sym f) ∙ u)), λ q. absurd (tag-offends b i q .1 (s i (q .0 .0))))
+
   malformed-told : Judged b o → o ≡ MalformedRecord ↔ Malformed b
-  malformed-told (long l e) = (λ _. inl l, λ _. e)
+  malformed-told (malformed m e) = (λ _. m, λ _. e)
   malformed-told (cut i h p e) = (λ f. differ o (FieldPastEnd i) MalformedRecord e f refl, λ m. absurd (offends-not i h (past-offends b i p) m))
   malformed-told (tagged i h p e) = (λ f. differ o (TagNotDue i) MalformedRecord e f refl, λ m. absurd (offends-not i h (tag-offends b i p) m))
-  malformed-told (wrong h s w e) = (λ _. inr (s, w), λ _. e)
   malformed-told (sound h s r A u) = (λ f. absurd (true≢false (ap isBroken (sym f) ∙ u)), λ m. absurd (lengths-not h r m))
 
   unbroken-accepted : Judged b o → isBroken o ≡ false → Accepted (verdict b)
-  unbroken-accepted (long l e) u = absurd (true≢false (ap isBroken (sym e) ∙ u))
+  unbroken-accepted (malformed m e) u = absurd (true≢false (ap isBroken (sym e) ∙ u))
   unbroken-accepted (cut i h p e) u = absurd (true≢false (ap isBroken (sym e) ∙ u))
   unbroken-accepted (tagged i h p e) u = absurd (true≢false (ap isBroken (sym e) ∙ u))
-  unbroken-accepted (wrong h s w e) u = absurd (true≢false (ap isBroken (sym e) ∙ u))
   unbroken-accepted (sound h s r A _) u = A
 
 -- the record of its own parts passes check 1
 own-record : (b : List ℕ) → length b ≤ longestRecord → b ≡ matrix-record (request b .size) (request b .method) (entriesOf b) → complete (verdict b) ≡ true
 own-record b h e =
-    let r = matrix-record (request b .size) (request b .method) (entriesOf b) in
     subst (λ (x : List ℕ). complete (check-record (length x) (walk x)) ≡ true) (sym e) (record-well-formed (request b .size) (request b .method) (entriesOf b) (rw (← e) h) .is)
 
 pub broken-records : BrokenRecordsTheorem

@@ -31,7 +31,7 @@ abbrev pub fieldStart : List ℕ → ℕ → ℕ
 fieldStart b zero = 0
 fieldStart b (suc i) = fieldStart b i + 3 + lengthAt b (fieldStart b i)
 
--- its header or its content runs past the end: of a cut header three bytes are due at least
+-- its header or its content runs past the end; a header has three bytes, so one that is cut does, whatever is read as its length
 abbrev pub RunsPastEnd : List ℕ → ℕ → Type 0
 RunsPastEnd b i = length b < fieldStart b (suc i)
 
