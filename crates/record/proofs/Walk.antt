@@ -80,7 +80,7 @@ pub walk-steps : (b : List ℕ) → walk b ≡ passField b 2 (passField b 1 (pas
 unfolding walk range times
 walk-steps b = refl
 
--- the index of the field at which a walk stopped, if it did
+-- the index of the field at which a walk stopped, else 0
 abbrev pub stoppedAt : Stage → ℕ
 stoppedAt SizeDue = 0
 stoppedAt MethodDue = 0
