@@ -74,23 +74,27 @@ fn a_wrong_tag_is_11_at_its_field_unless_its_field_is_cut() {
     }
 }
 
-#[test]
-fn the_first_offending_field_decides() {
-    let given = [
-        ("07 01 00 01 02 01 00", (11, 0)),
-        ("01 01 00 01 07 01 00 01 03", (11, 1)),
-        ("02 01 00 01 01 01 00 01", (11, 0)),
-        ("01 FF 00 01 07 01 00 01 03 00 00", (10, 0)),
-        ("01 01 00 01 02 FF FF 01 07 00 00", (10, 1)),
-    ];
-    for (record, (number, field)) in given {
+/// Each record by its number and field.
+fn refused(given: &[(&str, (u8, u8))]) {
+    for &(record, (number, field)) in given {
         assert_eq!(refusal(&bytes(record)), (number, [field, 0]), "{record}");
     }
 }
 
 #[test]
+fn the_first_offending_field_decides() {
+    refused(&[
+        ("07 01 00 01 02 01 00", (11, 0)),
+        ("01 01 00 01 07 01 00 01 03", (11, 1)),
+        ("02 01 00 01 01 01 00 01", (11, 0)),
+        ("01 FF 00 01 07 01 00 01 03 00 00", (10, 0)),
+        ("01 01 00 01 02 FF FF 01 07 00 00", (10, 1)),
+    ]);
+}
+
+#[test]
 fn lengths_and_bytes_after_are_judged_after_the_fields() {
-    let given = [
+    refused(&[
         ("01 00 00 02 01 00 01 03 00 00", (1, 0)),
         ("01 02 00 01 01 02 01 00 01 03 00 00", (1, 0)),
         ("01 01 00 01 02 00 00 03 00 00", (1, 0)),
@@ -103,10 +107,7 @@ fn lengths_and_bytes_after_are_judged_after_the_fields() {
         ("01 01 00 01 02 02 00 01 01 03 00", (10, 2)),
         ("01 01 00 01 02 02 00 01 01 04 00 00", (11, 2)),
         ("01 00 00 02 00 00 03 00 00 03", (1, 0)),
-    ];
-    for (record, (number, field)) in given {
-        assert_eq!(refusal(&bytes(record)), (number, [field, 0]), "{record}");
-    }
+    ]);
 }
 
 #[test]

@@ -5,7 +5,7 @@ use mathlib.Core.List.{List}
 use mathlib.Core.Bool.{true, false}
 use Prim.Native.Nat.{ℕ, _≤_}
 use native.Mathlib.Omega.{arith}
-use borrow.Author.Tests.{eqb-false}
+use borrow.Author.Tests.{eqb-false, not-true}
 use lib.Ieee.{Float}
 use Rattle.arithmetic.specs.Outcome.{number, complete, _then_}
 use Rattle.arithmetic.specs.declared.outcome.Outcome.{Outcome}
@@ -82,4 +82,4 @@ module _ (b : List ℕ) where
   accepted-number h = rw (answer-complete b h) (factor-number (methodOf (request b .method)) tolerances (request b .size) (matrixOf b))
 
   pub refused-number : complete (record-checks b longestAnswer) ≡ false → let o = resultOf b .decomposition .outcome in (1 ≤ number o) × (number o ≡ 9 → ⊥)
-  refused-number h = rw (refused-outcome b h) (omega (arith, eqb-false (number (record-checks b longestAnswer)) 0 h), checks-early b longestAnswer .number-is)
+  refused-number h = rw (refused-outcome b h) (omega (arith, eqb-false (number (record-checks b longestAnswer)) 0 h), eqb-false (number (record-checks b longestAnswer)) 9 (not-true _ (checks-early b longestAnswer .number-is)))

@@ -1,31 +1,29 @@
 -- What is broken in a record: the walk's verdict is what the call hands back, and it is told by the record's bytes.
 use mathlib.Core.Path.{_≡_, refl, sym, ap, subst, _∙_}
 use mathlib.Core.List.{List}
-use mathlib.Core.Bool.{Bool, true, false, cond, not, _&&_, _||_, true≢false}
+use mathlib.Core.Bool.{Bool, true, false, cond, _&&_, true≢false}
 use mathlib.Core.Logic.{inl, inr, _↔_}
-use Prim.Native.Nat.{ℕ, _*_, _/_, _%_, _≤_, _<_}
+use Prim.Native.Nat.{ℕ, _≤_, _<_}
 use native.Mathlib.Decide.{decLt}
 use native.Mathlib.Omega.{arith}
 use lib.ListN.{length}
-use lib.Dec.{eqb, leb, ltb}
-use borrow.Author.Tests.{eq-eqb, lt-ltb, le-ltb, eqb-true, eqb-false}
-use Rattle.arithmetic.specs.Outcome.{number, place, complete, refuse, _then_}
+use lib.Dec.{eqb}
+use borrow.Author.Tests.{not-true, eq-eqb, lt-ltb, le-ltb, eqb-true, eqb-false}
+use Rattle.arithmetic.specs.Outcome.{number, place, complete, _then_}
 use Rattle.arithmetic.specs.declared.outcome.Outcome.{Outcome}
-use Rattle.arithmetic.specs.declared.outcome.Outcome.the-variants.{Complete, MalformedRecord, UnknownMethod, SizeOutOfRange, MatrixLength, BufferLength, NotFinite, Unsymmetric, FieldPastEnd, TagNotDue}
+use Rattle.arithmetic.specs.declared.outcome.Outcome.the-variants.{Complete, MalformedRecord, FieldPastEnd, TagNotDue}
 use Rattle.arithmetic.proofs.OrderLaws.{and-1, and-2}
-use Rattle.arithmetic.proofs.OutcomeLaws.{complete-is}
 use Rattle.arithmetic.proofs.Cases.{is, holds, fails}
-use Rattle.matrix.specs.Checks.{firstNotFinite, firstUnsymmetric}
-use Rattle.matrix.proofs.CheckLaws.{Accepted, then-keeps, refuse-keeps}
+use Rattle.matrix.proofs.CheckLaws.{Accepted}
 use Rattle.answer_record.specs.AnswerRecord.{longestAnswer}
 use Rattle.record.specs.Cursor.{walk}
-use Rattle.record.specs.MatrixRecord.{matrix-record, request, entriesOf, longestRecord, check-walk, exact, check-exact, check-record, request-checks, byte-checks, record-checks}
-use Rattle.encoding.specs.Bytes.{doubles}
+use Rattle.record.specs.MatrixRecord.{matrix-record, request, entriesOf, longestRecord, check-walk, exact, check-exact, check-record, byte-checks, record-checks}
 use Rattle.encoding.specs.Writing.{over}
 use Rattle.record.specs.Record.{resultOf, answer, RecordCall, recordCall, record-call}
 use Rattle.whole_calls.specs.BrokenRecords.{lengthAt, fieldStart, Stands, Reached, PastEndAt, WrongTagAt, AllStand, RightLengths, Malformed, handedBack, isBroken, BrokenRecordsTheorem}
 use Rattle.record.specs.declared.cursor.Cursor.{Cursor}
 use Rattle.record.proofs.Walk.{walk-steps}
+use Rattle.record.proofs.Early.{beforeRun, content-early}
 use Rattle.record.proofs.Answers.{refused-outcome, accepted-number}
 use Rattle.whole_calls.proofs.MatrixRecord.{record-well-formed, accepted-length, well-formed-is}
 use Rattle.whole_calls.proofs.Walked.{Walked, walked, three, cut-in, tag-in}
@@ -46,14 +44,24 @@ same-field b i j p q = elim (decLt i j) [
   | no h ↦ elim (decLt j i) [ yes k ↦ absurd (q .1 (p .0 .1 j k)) | no k ↦ omega arith ]
 ]
 
--- ---- what check 1 says, with 10 and 11
+-- where a field offends, and where all lengths are right, nothing is 1
+module _ (b : List ℕ) (h : length b ≤ longestRecord) where
+  offends-not : (i : ℕ) → Offends b i → Malformed b → ⊥
+  offends-not i p (inl l) = omega arith
+  offends-not i p (inr s) = p .1 (s .0 i (p .0 .0))
+
+  lengths-not : RightLengths b → Malformed b → ⊥
+  lengths-not r (inl l) = omega arith
+  lengths-not r (inr s) = s .1 r
+
+-- ---- what checks 1, 10 and 11 say
 abbrev verdict : List ℕ → Outcome
 verdict b = check-record (length b) (walk b)
 
 data Judged (b : List ℕ) (o : Outcome) : Type 0 where
   malformed : Malformed b → o ≡ MalformedRecord → Judged b o
-  cut : (i : ℕ) → length b ≤ longestRecord → PastEndAt b i → o ≡ FieldPastEnd i → Judged b o
-  tagged : (i : ℕ) → length b ≤ longestRecord → WrongTagAt b i → o ≡ TagNotDue i → Judged b o
+  cut-at : (i : ℕ) → length b ≤ longestRecord → PastEndAt b i → o ≡ FieldPastEnd i → Judged b o
+  tag-at : (i : ℕ) → length b ≤ longestRecord → WrongTagAt b i → o ≡ TagNotDue i → Judged b o
   sound : length b ≤ longestRecord → AllStand b → RightLengths b → Accepted (verdict b) → isBroken o ≡ false → Judged b o
 
 module _ (b : List ℕ) where
@@ -77,8 +85,8 @@ judged b = elim (decLt longestRecord (length b)) [
 ]
   where
     walk-judged : length b ≤ longestRecord → Walked b → Judged b (verdict b)
-    walk-judged h (cut-in i p e) = cut i h p (stopped b h (FieldPastEnd i) refl (ap check-walk e))
-    walk-judged h (tag-in i found p e) = tagged i h p (stopped b h (TagNotDue i) refl (ap check-walk e))
+    walk-judged h (cut-in i p e) = cut-at i h p (stopped b h (FieldPastEnd i) refl (ap check-walk e))
+    walk-judged h (tag-in i found p e) = tag-at i h p (stopped b h (TagNotDue i) refl (ap check-walk e))
     walk-judged h (three t) =
         let done : check-walk (walk b .stage) ≡ Complete = ap (λ (c : Cursor). check-walk (c .stage)) (walk-steps b ∙ t .third .leads) in
         let v = went-on b h done in
@@ -93,17 +101,6 @@ judged b = elim (decLt longestRecord (length b)) [
               sound h (t .stand) (eqb-true _ _ (and-1 x (y && z) r), eqb-true _ _ (and-1 y z s), eqb-true _ _ (and-2 y z s)) (record { is = ap complete c }) (ap isBroken c)
           | fails r ↦ malformed (inr (t .stand, λ l. true≢false (sym (rw (eq-eqb _ _ (l .0), eq-eqb _ _ (l .1), eq-eqb _ _ (l .2)) refl) ∙ r))) (v ∙ rw (e ∙ r) refl)
         ]
-
--- ---- none of 1, 10 and 11
-record Unbroken (o : Outcome) : Type 0 where
-  is-not : isBroken o ≡ false
-
-refusal-unbroken : (bad : Bool) (o : Outcome) → isBroken o ≡ false → Unbroken (refuse bad o)
-refusal-unbroken bad o e = refuse-keeps Unbroken bad o (record { is-not = refl }) (λ _. record { is-not = e })
-
-infixl 1 _also_
-_also_ : {o rest : Outcome} → Unbroken o → Unbroken rest → Unbroken (o then rest)
-p also q = then-keeps Unbroken _ _ p (λ _. q)
 
 -- ---- the verdict is what the call hands back: where it is no refusal, neither are the later checks and the run one of these three
 module _ (b : List ℕ) where
@@ -134,29 +131,16 @@ module _ (b : List ℕ) where
         | fails e ↦ handed-other out e ∙ first-decides (length out) h
       ]
 
-  later-checks : (room : ℕ) → complete (verdict b) ≡ true → Unbroken (record-checks b room)
-  unfolding record-checks byte-checks request-checks
-  later-checks room h =
-      let n = request b .size in
-      let m = request b .method in
-      let xs = doubles (entriesOf b) in
-      let f = firstNotFinite xs in
-      let g = firstUnsymmetric n xs in
-      let method = refusal-unbroken (not (leb 1 m && leb m 3)) UnknownMethod refl in
-      let size = refusal-unbroken (eqb n 0 || ltb 48 n) SizeOutOfRange refl in
-      let entries = refusal-unbroken (not (eqb (length (entriesOf b)) (8 * (n * n)))) MatrixLength refl in
-      let buffer = refusal-unbroken (not (eqb room longestAnswer)) BufferLength refl in
-      let finite = refusal-unbroken (ltb f (length xs)) (NotFinite (f / n) (f % n)) refl in
-      let symmetric = refusal-unbroken (ltb g (n * n)) (Unsymmetric (g / n) (g % n)) refl in
-      (record { is-not = ap isBroken (complete-is (verdict b) h) } also (method also size also entries also buffer also finite)) also symmetric
+  later-checks : (room : ℕ) → complete (verdict b) ≡ true → isBroken (record-checks b room) ≡ false
+  later-checks room h = let n = number (record-checks b room) in not-true _ (and-2 (beforeRun n) _ (content-early b room (record { is = h }) .number-is))
 
-  later-result : complete (verdict b) ≡ true → Unbroken (resultOf b .decomposition .outcome)
+  later-result : complete (verdict b) ≡ true → isBroken (resultOf b .decomposition .outcome) ≡ false
   later-result h = elim (is (complete (record-checks b longestAnswer))) [
-    | holds c ↦ elim (accepted-number b c) [ inl e ↦ record { is-not = rw e } | inr e ↦ record { is-not = rw e } ]
+    | holds c ↦ elim (accepted-number b c) [ inl e ↦ rw e | inr e ↦ rw e ]
     | fails c ↦ rw (refused-outcome b c) (later-checks longestAnswer h)
   ]
 
-  handed-later : (out : List ℕ) → complete (verdict b) ≡ true → Unbroken (handedBack b out)
+  handed-later : (out : List ℕ) → complete (verdict b) ≡ true → isBroken (handedBack b out) ≡ false
   handed-later out h = elim (is (eqb (length out) longestAnswer)) [
     | holds e ↦ rw (handed-own out e) (later-result h)
     | fails e ↦ rw (handed-other out e) (later-checks (length out) h)
@@ -167,9 +151,9 @@ handed-judged b out = go (judged b)
   where
     go : Judged b (verdict b) → Judged b (handedBack b out)
     go (malformed m e) = malformed m (handed-first b out (ap complete e) ∙ e)
-    go (cut i h p e) = cut i h p (handed-first b out (ap complete e) ∙ e)
-    go (tagged i h p e) = tagged i h p (handed-first b out (ap complete e) ∙ e)
-    go (sound h s r A u) = sound h s r A (handed-later b out (A .is) .is-not)
+    go (cut-at i h p e) = cut-at i h p (handed-first b out (ap complete e) ∙ e)
+    go (tag-at i h p e) = tag-at i h p (handed-first b out (ap complete e) ∙ e)
+    go (sound h s r A u) = sound h s r A (handed-later b out (A .is))
 
 -- ---- the theorem: one verdict holds, and none beside it
 -- outcomes with other numbers differ
@@ -177,34 +161,25 @@ differ : {A : Type 0} (o p q : Outcome) → o ≡ p → o ≡ q → eqb (number 
 differ o p q e f n = absurd (eqb-false (number p) (number q) n (ap number (sym e ∙ f)))
 
 module _ (b : List ℕ) (o : Outcome) where
-  -- where one field offends, not all three stand
-  offends-not : (i : ℕ) → length b ≤ longestRecord → Offends b i → Malformed b → ⊥
-  offends-not i h p (inl l) = omega arith
-  offends-not i h p (inr s) = p .1 (s .0 i (p .0 .0))
-
-  lengths-not : length b ≤ longestRecord → RightLengths b → Malformed b → ⊥
-  lengths-not h r (inl l) = omega arith
-  lengths-not h r (inr s) = s .1 r
-
   past-end-told : length b ≤ longestRecord → (i : ℕ) → Judged b o → o ≡ FieldPastEnd i ↔ PastEndAt b i
-  past-end-told h i (malformed m e) = (λ f. differ o MalformedRecord (FieldPastEnd i) e f refl, λ q. absurd (offends-not i h (past-offends b i q) m))
-  past-end-told h i (cut j _ p e) = (
+  past-end-told h i (malformed m e) = (λ f. differ o MalformedRecord (FieldPastEnd i) e f refl, λ q. absurd (offends-not b h i (past-offends b i q) m))
+  past-end-told h i (cut-at j _ p e) = (
     λ f. let s : j ≡ i = ap (λ (x : Outcome). place x .row) (sym e ∙ f) in rw (← s) p,
     λ q. e ∙ ap FieldPastEnd (same-field b j i (past-offends b j p) (past-offends b i q)),
   )
-  past-end-told h i (tagged j _ p e) = (
+  past-end-told h i (tag-at j _ p e) = (
     λ f. differ o (TagNotDue j) (FieldPastEnd i) e f refl,
     λ q. let s = same-field b j i (tag-offends b j p) (past-offends b i q) in absurd (let w = rw s at p in omega (arith, w .1, q .1)),
   )
   past-end-told h i (sound _ s r A u) = (λ f. absurd (true≢false (ap isBroken (sym f) ∙ u)), λ q. absurd (past-offends b i q .1 (s i (q .0 .0))))
 
   wrong-tag-told : length b ≤ longestRecord → (i : ℕ) → Judged b o → o ≡ TagNotDue i ↔ WrongTagAt b i
-  wrong-tag-told h i (malformed m e) = (λ f. differ o MalformedRecord (TagNotDue i) e f refl, λ q. absurd (offends-not i h (tag-offends b i q) m))
-  wrong-tag-told h i (cut j _ p e) = (
+  wrong-tag-told h i (malformed m e) = (λ f. differ o MalformedRecord (TagNotDue i) e f refl, λ q. absurd (offends-not b h i (tag-offends b i q) m))
+  wrong-tag-told h i (cut-at j _ p e) = (
     λ f. differ o (FieldPastEnd j) (TagNotDue i) e f refl,
     λ q. let s = same-field b j i (past-offends b j p) (tag-offends b i q) in absurd (let w = rw s at p in omega (arith, w .1, q .1)),
   )
-  wrong-tag-told h i (tagged j _ p e) = (
+  wrong-tag-told h i (tag-at j _ p e) = (
     λ f. let s : j ≡ i = ap (λ (x : Outcome). place x .row) (sym e ∙ f) in rw (← s) p,
     λ q. e ∙ ap TagNotDue (same-field b j i (tag-offends b j p) (tag-offends b i q)),
   )
@@ -212,17 +187,17 @@ module _ (b : List ℕ) (o : Outcome) where
 
   malformed-told : Judged b o → o ≡ MalformedRecord ↔ Malformed b
   malformed-told (malformed m e) = (λ _. m, λ _. e)
-  malformed-told (cut i h p e) = (λ f. differ o (FieldPastEnd i) MalformedRecord e f refl, λ m. absurd (offends-not i h (past-offends b i p) m))
-  malformed-told (tagged i h p e) = (λ f. differ o (TagNotDue i) MalformedRecord e f refl, λ m. absurd (offends-not i h (tag-offends b i p) m))
-  malformed-told (sound h s r A u) = (λ f. absurd (true≢false (ap isBroken (sym f) ∙ u)), λ m. absurd (lengths-not h r m))
+  malformed-told (cut-at i h p e) = (λ f. differ o (FieldPastEnd i) MalformedRecord e f refl, λ m. absurd (offends-not b h i (past-offends b i p) m))
+  malformed-told (tag-at i h p e) = (λ f. differ o (TagNotDue i) MalformedRecord e f refl, λ m. absurd (offends-not b h i (tag-offends b i p) m))
+  malformed-told (sound h s r A u) = (λ f. absurd (true≢false (ap isBroken (sym f) ∙ u)), λ m. absurd (lengths-not b h r m))
 
   unbroken-accepted : Judged b o → isBroken o ≡ false → Accepted (verdict b)
   unbroken-accepted (malformed m e) u = absurd (true≢false (ap isBroken (sym e) ∙ u))
-  unbroken-accepted (cut i h p e) u = absurd (true≢false (ap isBroken (sym e) ∙ u))
-  unbroken-accepted (tagged i h p e) u = absurd (true≢false (ap isBroken (sym e) ∙ u))
+  unbroken-accepted (cut-at i h p e) u = absurd (true≢false (ap isBroken (sym e) ∙ u))
+  unbroken-accepted (tag-at i h p e) u = absurd (true≢false (ap isBroken (sym e) ∙ u))
   unbroken-accepted (sound h s r A _) u = A
 
--- the record of its own parts passes check 1
+-- the record of its own parts passes checks 1, 10 and 11
 own-record : (b : List ℕ) → length b ≤ longestRecord → b ≡ matrix-record (request b .size) (request b .method) (entriesOf b) → complete (verdict b) ≡ true
 own-record b h e =
     subst (λ (x : List ℕ). complete (check-record (length x) (walk x)) ≡ true) (sym e) (record-well-formed (request b .size) (request b .method) (entriesOf b) (rw (← e) h) .is)
@@ -236,6 +211,6 @@ broken-records b out =
       malformed = malformed-told b (handedBack b out) j;
       otherwise = λ small. (
         λ u. let A = unbroken-accepted b (handedBack b out) j u in (accepted-length b A, well-formed-is b A small),
-        λ e. handed-later b out (own-record b (e .0) (e .1)) .is-not,
+        λ e. handed-later b out (own-record b (e .0) (e .1)),
       );
     }

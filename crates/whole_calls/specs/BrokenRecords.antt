@@ -1,6 +1,6 @@
 -- What is broken in a record (document 02, N1): when the record call hands back 10, 11 or 1, of every list of bytes and every buffer lent
--- for the answer, said by the record's bytes alone. Proved as `broken-records`
--- (proofs/BrokenRecords.antt) and `whole-records` (proofs/Reading.antt).
+-- for the answer, said by the record's bytes alone. Proved as `broken-records` (proofs/BrokenRecords.antt) and `whole-records`
+-- (proofs/Reading.antt).
 use mathlib.Core.Path.{_≡_}
 use mathlib.Core.Bool.{Bool, false, cond, _||_}
 use mathlib.Core.List.{List, [], _∷_}
