@@ -11,10 +11,11 @@
  * it while it runs and keeps no pointer. No pointer may be null, also where its length is 0, and what a call writes to
  * may not overlap anything else that the same call is given. A call keeps no state, so threads may call at once.
  *
- * A call whose name ends in _bytes takes doubles as bytes, eight each with the low byte first, and lists of indices as
- * one byte each; its lengths are numbers of bytes. x86-64 keeps a double in that order, so the call of the same name
- * without the ending, on double and size_t, is an inline function that passes the same memory on to the one on bytes,
- * and a list of indices as a copy. Only millracer_factor passes on to millracer_factor_doubles instead.
+ * A call whose name ends in _bytes takes doubles as bytes, eight each with the low byte first, contract numbers as four
+ * bytes each likewise, and lists of indices as one byte each; its lengths are numbers of bytes. x86-64 keeps a double
+ * in that order, so the call of the same name without the ending, on double and size_t, is an inline function that
+ * passes the same memory on to the one on bytes, and a list of indices as a copy. Only millracer_factor and
+ * millracer_factor_numbered pass on to millracer_factor_doubles and millracer_factor_numbered_doubles instead.
  *
  * No operand is forbidden otherwise: a call that can't accept one says so by a refusal. The contract of each function
  * in the archive, an equation for what it hands back and for every buffer it was lent, is proved (crates/exports). */
@@ -30,9 +31,10 @@ extern "C" {
 
 enum { MILLRACER_MAX_N = 48, MILLRACER_NO_STEP = 255 };
 
-/* Refusals, in checking order but for 10 and 11. Only a record is refused 1, 10 and 11: 1 where it is too long, then
+/* Refusals, in checking order but for 10 to 13. Only a record is refused 1, 10 and 11: 1 where it is too long, then
  * 10 or 11 of its first offending field (10 if both hold of it), then 1 for the rest, then 2 and so on. Its fields
- * count from 0 and have the tags 01 (n), 02 (method) and 03 (entries).
+ * count from 0 and have the tags 01 (n), 02 (method), 04 (contract numbers, which may be left out) and 03 (entries).
+ * 12 and 13 come after 4 and before 5, where there are contract numbers.
  * All but 9 leave every buffer untouched, save that an answer record tells of them. */
 enum {
   MILLRACER_COMPLETE = 0,
@@ -46,7 +48,9 @@ enum {
   MILLRACER_UNSYMMETRIC = 8,        /* row, column: the first entry above the diagonal whose mirror has other bits */
   MILLRACER_STORED_NOT_FINITE = 9,  /* row: the first step that stored an infinity or NaN */
   MILLRACER_FIELD_PAST_END = 10,    /* the transfer was cut in field ROW: its header or content runs past the end */
-  MILLRACER_TAG_NOT_DUE = 11        /* field ROW has another tag than the one due; it isn't cut */
+  MILLRACER_TAG_NOT_DUE = 11,       /* field ROW has a tag that isn't due; it isn't cut */
+  MILLRACER_NUMBERS_LENGTH = 12,    /* not n contract numbers; on bytes and in a record not 4 * n bytes of them */
+  MILLRACER_NUMBER_REPEATED = 13    /* row: the first row whose contract number came before */
 };
 
 /* How a call ended: 0, or a refusal and its place; row and column are 0 where none is named. */
@@ -80,10 +84,30 @@ static inline millracer_factorization millracer_factor(size_t method, const doub
   return millracer_factor_doubles(method, a, a_len, n, l, l_len, work, work_len, e, e_len, p, p_len);
 }
 
+millracer_factorization millracer_factor_numbered_doubles(size_t method, const double *a, size_t a_len, size_t n,
+                                                          const uint32_t *numbers, size_t numbers_len, double *l,
+                                                          size_t l_len, double *work, size_t work_len, double *e,
+                                                          size_t e_len, size_t *p, size_t p_len);
+millracer_factorization millracer_factor_numbered_bytes(size_t method, const uint8_t *a, size_t a_len, size_t n,
+                                                        const uint8_t *numbers, size_t numbers_len, uint8_t *l,
+                                                        size_t l_len, uint8_t *work, size_t work_len, uint8_t *e,
+                                                        size_t e_len, uint8_t *p, size_t p_len);
+
+/* The same with a contract number for each row of a, no two equal: where a pivot search is tied, the smallest number
+ * among the largest is taken, in both phases, and not the first in position. The tied step is reported as it is
+ * without numbers. GMW81 then answers alike however its contracts were loaded, ties included. */
+static inline millracer_factorization millracer_factor_numbered(size_t method, const double *a, size_t a_len, size_t n,
+                                                                const uint32_t *numbers, size_t numbers_len, double *l,
+                                                                size_t l_len, double *work, size_t work_len, double *e,
+                                                                size_t e_len, size_t *p, size_t p_len) {
+  return millracer_factor_numbered_doubles(method, a, a_len, n, numbers, numbers_len, l, l_len, work, work_len, e,
+                                           e_len, p, p_len);
+}
+
 /* ---- records */
 
-/* The bytes of the longest matrix record and of the longest answer record. */
-enum { MILLRACER_LONGEST_RECORD = 18443, MILLRACER_LONGEST_ANSWER = 18885 };
+/* The bytes of the longest matrix record (without contract numbers 195 less) and of the longest answer record. */
+enum { MILLRACER_LONGEST_RECORD = 18638, MILLRACER_LONGEST_ANSWER = 18885 };
 
 typedef struct {
   millracer_refusal refusal; /* also in the answer record */
@@ -91,8 +115,8 @@ typedef struct {
 } millracer_written;
 
 /* Writes the answer record to a matrix record, any bytes, at the front of answer, which has MILLRACER_LONGEST_ANSWER
- * bytes. A buffer of any other length is refused, 5, after 1, 10, 11, 2, 3 and 4: it stays as it is, and the length is
- * 0. */
+ * bytes. A buffer of any other length is refused, 5, after 1, 10, 11, 2, 3, 4, 12 and 13: it stays as it is, and the
+ * length is 0. */
 millracer_written millracer_record(const uint8_t *record, size_t record_len, uint8_t *answer, size_t answer_len);
 
 /* Where a record's field begins, with its tag, counting from 0: each field before it is passed by its own length.
@@ -109,8 +133,12 @@ static inline size_t millracer_field_position(const uint8_t *record, size_t reco
   return at;
 }
 
-/* The tag due at a field of a matrix record, from 0. */
+/* The tag due at a field of a matrix record, from 0. At field 2 two tags are due: 03, or 04 where contract numbers come
+ * before the entries, which are then field 3. */
 static inline unsigned millracer_tag_due(size_t field) { return field == 0 ? 0x01 : field == 1 ? 0x02 : 0x03; }
+
+/* The other tag due at a field: 04 at field 2, else 0, for none. */
+static inline unsigned millracer_other_tag_due(size_t field) { return field == 2 ? 0x04 : 0; }
 
 /* ---- square root, correctly rounded */
 

@@ -81,6 +81,68 @@ static void factorizations(void) {
   EXPECT(is(f.refusal, MILLRACER_UNKNOWN_METHOD, 0, 0));
 }
 
+static const double tied[] = {1, 0, 0, 0, 1, 0, 0, 0, 3};
+
+// The refusal of a numbered call on the diagonal 1, 1, 3, which leaves all buffers as they were.
+static millracer_refusal refused_numbers(const uint32_t *numbers, size_t numbers_len, size_t e_len) {
+  double l[9], work[9], e[3];
+  size_t p[3];
+  memset(l, 7, sizeof l), memset(work, 7, sizeof work), memset(e, 7, sizeof e), memset(p, 7, sizeof p);
+  millracer_factorization f =
+      millracer_factor_numbered(MILLRACER_SE99, tied, 9, 3, numbers, numbers_len, l, 9, work, 9, e, e_len, p, 3);
+  EXPECT(f.tied == MILLRACER_NO_STEP && f.phase2 == MILLRACER_NO_STEP);
+  EXPECT(memcmp(l, work, sizeof l) == 0 && memcmp(e, l, sizeof e) == 0 && memcmp(p, l, sizeof p) == 0);
+  const uint8_t *bytes = (const uint8_t *)l;
+  EXPECT(bytes[0] == 7 && memcmp(bytes, bytes + 1, sizeof l - 1) == 0);
+  return f.refusal;
+}
+
+// Whether a tie is settled by these numbers so that p is 2, then first, then second.
+static int settled(const uint32_t *numbers, size_t first, size_t second) {
+  int all = 1;
+  for (size_t method = MILLRACER_GMW81; method <= MILLRACER_SE99; method++) {
+    double l[9], work[9], e[3];
+    size_t p[3];
+    millracer_factorization f = millracer_factor_numbered(method, tied, 9, 3, numbers, 3, l, 9, work, 9, e, 3, p, 3);
+    all = all && is(f.refusal, 0, 0, 0) && f.tied == 1 && f.phase2 == MILLRACER_NO_STEP;
+    all = all && p[0] == 2 && p[1] == first && p[2] == second && l[4] == 1 && l[8] == 1 && work[8] == 0;
+  }
+  return all;
+}
+
+static void numbers(void) {
+  EXPECT(settled((uint32_t[]){0, 1, 2}, 0, 1));
+  EXPECT(settled((uint32_t[]){1, 0, 2}, 1, 0));
+  EXPECT(settled((uint32_t[]){UINT32_MAX, 1, 0}, 1, 0));
+  EXPECT(settled((uint32_t[]){0x00000002, 0x01000001, 7}, 0, 1));
+  EXPECT(is(refused_numbers((uint32_t[]){0, 1, 2}, 2, 3), MILLRACER_NUMBERS_LENGTH, 0, 0));
+  EXPECT(is(refused_numbers((uint32_t[]){0, 0, 0, 0}, 4, 2), MILLRACER_NUMBERS_LENGTH, 0, 0));
+  EXPECT(is(refused_numbers((uint32_t[]){0}, 0, 3), MILLRACER_NUMBERS_LENGTH, 0, 0));
+  EXPECT(is(refused_numbers((uint32_t[]){5, 5, 5}, 3, 2), MILLRACER_NUMBER_REPEATED, 1, 0));
+  EXPECT(is(refused_numbers((uint32_t[]){5, 6, 5}, 3, 3), MILLRACER_NUMBER_REPEATED, 2, 0));
+  EXPECT(is(refused_numbers((uint32_t[]){5, 6, 7}, 3, 2), MILLRACER_BUFFER_LENGTH, 0, 0));
+}
+
+// Four bytes a number, the low one first.
+static void numbers_in_bytes(void) {
+  uint8_t l[32], work[32], e[16], p[2];
+  const uint8_t unit[32] = {[6] = 0xf0, [7] = 0x3f, [30] = 0xf0, [31] = 0x3f};
+  const uint8_t wanted[] = {2, 0, 0, 0, 1, 0, 0, 0, 9}, high[] = {1, 0, 0, 1, 2, 0, 0, 0}, equal[8] = {0};
+  const size_t lens[] = {0, 7, 9, 4};
+  for (size_t i = 0; i < 4; i++) {
+    millracer_factorization f =
+        millracer_factor_numbered_bytes(MILLRACER_GMW81, unit, 32, 2, wanted, lens[i], l, 32, work, 32, e, 16, p, 2);
+    EXPECT(is(f.refusal, MILLRACER_NUMBERS_LENGTH, 0, 0));
+  }
+  millracer_factorization f =
+      millracer_factor_numbered_bytes(MILLRACER_GMW81, unit, 32, 2, wanted, 8, l, 32, work, 32, e, 16, p, 2);
+  EXPECT(is(f.refusal, 0, 0, 0) && f.tied == 0 && p[0] == 1 && p[1] == 0);
+  f = millracer_factor_numbered_bytes(MILLRACER_SE90, unit, 32, 2, high, 8, l, 32, work, 32, e, 16, p, 2);
+  EXPECT(is(f.refusal, 0, 0, 0) && f.tied == 0 && p[0] == 1 && p[1] == 0);
+  f = millracer_factor_numbered_bytes(MILLRACER_SE99, unit, 32, 2, equal, 8, l, 31, work, 32, e, 16, p, 2);
+  EXPECT(is(f.refusal, MILLRACER_NUMBER_REPEATED, 1, 0) && p[0] == 1 && p[1] == 0);
+}
+
 // A length of one byte more or less is refused, and the buffers stay as they are.
 static void lengths_in_bytes(void) {
   const uint8_t c[] = {0, 0, 0, 0, 0, 0, 0xf0, 0x3f, 0, 0, 0, 0, 0, 0, 0, 0xc0};
@@ -177,7 +239,7 @@ static void broken_records(void) {
     for (unsigned tag = 0; tag < 256; tag++) {
       memcpy(record, small, sizeof small);
       record[starts[field]] = (uint8_t)tag;
-      if (tag == millracer_tag_due(field)) continue;
+      if (tag == millracer_tag_due(field) || tag == millracer_other_tag_due(field)) continue;
       EXPECT(is(refused(record, sizeof record), MILLRACER_TAG_NOT_DUE, field, 0));
       EXPECT(is(refused(record, starts[field + 1]), MILLRACER_TAG_NOT_DUE, field, 0));
       EXPECT(is(refused(record, starts[field + 1] - 1), MILLRACER_FIELD_PAST_END, field, 0));
@@ -190,6 +252,32 @@ static void broken_records(void) {
   static uint8_t zeros[MILLRACER_LONGEST_RECORD + 1];
   EXPECT(is(refused(zeros, sizeof zeros), MILLRACER_MALFORMED_RECORD, 0, 0));
   EXPECT(is(refused(zeros, sizeof zeros - 1), MILLRACER_TAG_NOT_DUE, 0, 0));
+}
+
+// The entry 4 of contract 7: every cut, every tag, and the numbers' own refusals.
+static void numbered_records(void) {
+  static uint8_t answer[MILLRACER_LONGEST_ANSWER], other[MILLRACER_LONGEST_ANSWER];
+  const uint8_t sound[] = {1, 1, 0, 1, 2, 1, 0, 1, 4, 4, 0, 7, 0, 0, 0, 3, 8, 0, 0, 0, 0, 0, 0, 0, 0x10, 0x40};
+  EXPECT(millracer_record(sound, sizeof sound, answer, sizeof answer).length == 38);
+  EXPECT(millracer_record(small, sizeof small, other, sizeof other).length == 38);
+  EXPECT(memcmp(answer, other, 38) == 0);
+  const size_t starts[] = {0, 4, 8, 15, sizeof sound};
+  uint8_t record[sizeof sound];
+  for (size_t field = 0; field < 4; field++) {
+    for (size_t end = starts[field]; end < starts[field + 1]; end++)
+      EXPECT(is(refused(sound, end), MILLRACER_FIELD_PAST_END, field, 0));
+    for (unsigned tag = 0; tag < 256; tag++) {
+      memcpy(record, sound, sizeof sound);
+      record[starts[field]] = (uint8_t)tag;
+      if (tag == sound[starts[field]] || tag == millracer_tag_due(field)) continue;
+      EXPECT(is(refused(record, sizeof record), MILLRACER_TAG_NOT_DUE, field, 0));
+    }
+  }
+  const uint8_t short_numbers[] = {1, 1, 0, 1, 2, 1, 0, 1, 4, 3, 0, 7, 0, 0, 3, 8, 0, 0, 0, 0, 0, 0, 0, 0xf0, 0x7f};
+  EXPECT(is(refused(short_numbers, sizeof short_numbers), MILLRACER_NUMBERS_LENGTH, 0, 0));
+  const uint8_t repeated[54] = {1, 1, 0, 2, 2, 1, 0, 1, 4, 8, 0, 7, 0, 0, 9, 7, 0, 0, 9, 3, 32};
+  EXPECT(is(refused(repeated, sizeof repeated), MILLRACER_NUMBER_REPEATED, 1, 0));
+  EXPECT(millracer_tag_due(3) == 3 && millracer_other_tag_due(3) == 0 && millracer_other_tag_due(1) == 0);
 }
 
 // Each record ends where memory does.
@@ -220,9 +308,12 @@ int main(void) {
   values();
   matrices();
   factorizations();
+  numbers();
+  numbers_in_bytes();
   lengths_in_bytes();
   records();
   broken_records();
+  numbered_records();
   positions();
   if (!failed) printf("exports: every call answers from C\n");
   return failed;

@@ -18,6 +18,8 @@ SPREAD = os.path.join(ROOT, "examples", "spread.csv")
 LARGEST = sys.float_info.max
 LEAST = 5e-324
 NONE = 0xFF
+POSITION = "the order of rows may have picked the pivot"
+UNKNOWN = f"unless the record has contract numbers, {POSITION}"
 MALFORMED = "the record is too long, or n or method is not one byte long, or bytes follow the last field"
 
 
@@ -36,6 +38,9 @@ record = load_program()
 MATRIX_EXAMPLE = bytes.fromhex("01 01 00 01  02 01 00 01  03 08 00 00 00 00 00 00 00 10 40")
 ANSWER_EXAMPLE = bytes.fromhex("11 01 00 00  12 01 00 FF  13 01 00 FF  14 01 00 00"
                                "15 08 00 00 00 00 00 00 00 00 00  16 08 00 00 00 00 00 00 00 00 40")
+
+
+NUMBERED_EXAMPLE = bytes.fromhex("01 01 00 01  02 01 00 01  04 04 00 07 00 00 00  03 08 00 00 00 00 00 00 00 10 40")
 
 
 def run(*arguments, source=b""):
@@ -132,6 +137,37 @@ class Write(Case):
                      "\ta b\tc d\na b\t4\t2\nc d\t2\t3", '"a, b";c\n4;2\n2;3', '"a;b","c"\n4,2\n2,3'):
             self.assertEqual(self.entries(text), [4.0, 2.0, 2.0, 3.0], text)
 
+    def test_contract_numbers(self):
+        for text in ("numbers: 7\n4", "4\nnumbers: 7\n", "corn\nnumbers: 7\ncorn 4", "NUMBERS:7\n4",
+                     '"numbers:",7,\n4'):
+            self.assertEqual(self.written(text), NUMBERED_EXAMPLE, text)
+        numbers = struct.pack("<2I", 4294967295, 0)
+        for line in ("numbers: 4294967295 0", "numbers:,4294967295,0", "numbers: 4294967295; 0",
+                     "numbers:\t4294967295\t00", '"numbers:";"4294967295";"0"', "numbers: 4294967295, 0,,"):
+            for rows in ("4 2\n2 3", "4,2\n2,3", "a;b\n4;2\n2;3", "a\t4\t2\nb\t2\t3"):
+                for text in (f"{line}\n{rows}", f"{rows}\n{line}"):
+                    self.assertEqual(self.written(text)[8:19], field(4, numbers), text)
+                    self.assertEqual(self.written(text)[22:], doubles([4.0, 2.0, 2.0, 3.0]), text)
+        self.assertEqual(self.written("# numbers: 1 2\n4 2\n2 3")[8], 3)
+
+    def test_equal_contract_numbers_are_written(self):
+        self.assertEqual(self.written("4 2\n2 3\nnumbers: 5 5")[11:19], struct.pack("<2I", 5, 5))
+
+    def test_mistakes_in_contract_numbers(self):
+        for line, words in (
+                ("numbers: 1", "1 contract numbers for 2 rows"),
+                ("numbers:", "0 contract numbers for 2 rows"),
+                ("numbers: 1 2 3", "3 contract numbers for 2 rows"),
+                ("numbers: 1 -2", "line 3: contract number '-2' is not a whole number from 0 to 4294967295"),
+                ("numbers: 1 2.0", "contract number '2.0' is not a whole number"),
+                ("numbers: 1 0x2", "contract number '0x2' is not a whole number"),
+                ("numbers: 1 4294967296", "contract number '4294967296' is not a whole number"),
+                ("numbers: 1 corn", "line 3: contract number 'corn' is not a whole number"),
+                ("numbers: 1 ２", "is not a whole number"),
+                ("numbers: 1 2\nnumbers: 1 2", "line 4: a second line of contract numbers"),
+                ("numbers 1 2", "line 3: row 2 has length 3, row 0 has length 2")):
+            self.assert_mistake(run("write", "1", self.file(f"4 2\n2 3\n{line}")), words)
+
     def test_not_finite_and_unsymmetric_are_written(self):
         values = self.entries("inf -Infinity\nNaN 0.0")
         self.assertEqual(values[:2] + values[3:], [float("inf"), float("-inf"), 0.0])
@@ -152,6 +188,8 @@ class Write(Case):
         self.assertEqual(len(output), 18443)
         self.assertEqual(output[:11], bytes.fromhex("01 01 00 30  02 01 00 01  03 00 48"))
         self.assert_mistake(run("write", "1", self.file("\n".join(["1 " * 49] * 49))), "49 rows and columns")
+        numbers = "numbers: " + " ".join(map(str, range(48)))
+        self.assertEqual(len(self.written("\n".join(["1 " * 48] * 48 + [numbers]))), 18638)
 
     def test_mistakes(self):
         for text, words in (
@@ -200,9 +238,12 @@ class Show(Case):
         self.assertEqual(self.shown(refused(8, 0, 2)), ["refused: 8, unsymmetric, at row 0, column 2"])
         self.assertEqual(self.shown(refused(9, 48, 0, 3, 7)), [
             "refused: 9, step 48 stored a value that is not finite",
-            "first tied at step 3: the order of rows may have picked the pivot", "phase two from step 7"])
+            f"first tied at step 3: {UNKNOWN}", "phase two from step 7"])
         self.assertEqual(self.shown(refused(9))[1:], ["no pivot search was tied", "no phase two"])
-        for field_index, due in enumerate(("01", "02", "03")):
+        self.assertEqual(self.shown(refused(12)),
+                         ["refused: 12, the contract numbers are not four bytes for each row"])
+        self.assertEqual(self.shown(refused(13, 2)), ["refused: 13, row 2 has the contract number of an earlier row"])
+        for field_index, due in enumerate(("01", "02", "03 or 04", "03")):
             self.assertEqual(self.shown(refused(10, field_index)),
                              [f"refused: 10, the transfer was cut in field {field_index}"])
             self.assertEqual(self.shown(refused(11, field_index)),
@@ -210,8 +251,8 @@ class Show(Case):
 
     def test_steps(self):
         lines = self.shown(complete([1, 0], [0.5, 0.0], [1.0, 0.0, -2.5, 3.0], 0, 1))
-        self.assertEqual(lines[1:4], ["first tied at step 0: the order of rows may have picked the pivot",
-                                      "phase two from step 1", "pivot order: 1, 0"])
+        self.assertEqual(lines[1:4], [f"first tied at step 0: {UNKNOWN}", "phase two from step 1",
+                                      "pivot order: 1, 0"])
         self.assertEqual(lines[4:], ["amount added for each row:", "  0  0.5", "  1  0.0",
                                      "L, its rows in pivot order:", "  1   1.0  0.0", "  0  -2.5  3.0"])
 
@@ -271,11 +312,16 @@ class Show(Case):
                 (complete([0, 1], [0.0] * 2, [0.0] * 4, phase_two=2), "phase-two step 2"),
                 (good[:3] + b"\x08" + good[4:], "refusal 8 without a place"),
                 (refused(0), "no refusal has number 0"),
-                (refused(12), "no refusal has number 12"),
+                (refused(14), "no refusal has number 14"),
+                (refused(12, 1), "refusal 12 cannot be at 1, 0"),
+                (refused(13), "refusal 13 cannot be at 0, 0"),
+                (refused(13, 48), "refusal 13 cannot be at 48, 0"),
+                (refused(13, 1, 1), "refusal 13 cannot be at 1, 1"),
+                (refused(13, 1, tied=0), "tied step 0"),
                 (refused(1, 1), "refusal 1 cannot be at 1, 0"),
-                (refused(10, 3), "refusal 10 cannot be at 3, 0"),
+                (refused(10, 4), "refusal 10 cannot be at 4, 0"),
                 (refused(10, 0, 1), "refusal 10 cannot be at 0, 1"),
-                (refused(11, 3), "refusal 11 cannot be at 3, 0"),
+                (refused(11, 4), "refusal 11 cannot be at 4, 0"),
                 (refused(11, 2, 1), "refusal 11 cannot be at 2, 1"),
                 (refused(10, 1, tied=0), "tied step 0"),
                 (refused(11, 1, phase_two=1), "phase-two step 1"),
@@ -312,10 +358,57 @@ class Faults(Case):
 
     def test_every_tag(self):
         for index, start in enumerate((0, 4, 8)):
-            for tag in set(range(256)) - {index + 1}:
+            due = [{1}, {2}, {3, 4}][index]
+            for tag in set(range(256)) - due:
                 matrix = MATRIX_EXAMPLE[:start] + bytes([tag]) + MATRIX_EXAMPLE[start + 1:]
-                words = f"field {index} has tag {tag:02X}, 0{index + 1} was due"
-                self.assert_fault(matrix, 11, index, words)
+                words = ("01", "02", "03 or 04")[index]
+                self.assert_fault(matrix, 11, index, f"field {index} has tag {tag:02X}, {words} was due")
+
+    def test_every_cut_and_tag_of_a_numbered_record(self):
+        starts = (0, 4, 8, 15, 26)
+        for index, (start, end) in enumerate(zip(starts, starts[1:])):
+            for length in range(start, end):
+                self.assert_starts(NUMBERED_EXAMPLE[:length], 10, index, f"the transfer was cut in field {index}: ")
+        for tag in set(range(256)) - {3}:
+            matrix = NUMBERED_EXAMPLE[:15] + bytes([tag]) + NUMBERED_EXAMPLE[16:]
+            self.assert_fault(matrix, 11, 3, f"field 3 has tag {tag:02X}, 03 was due")
+        four = MATRIX_EXAMPLE[:8] + b"\4" + MATRIX_EXAMPLE[9:]
+        self.assert_fault(four, 10, 3, "the transfer was cut in field 3: 3 bytes of header were due, 0 arrived")
+
+    def assert_starts(self, matrix, number, index, words):
+        line, = self.told(refused(number, index), matrix)
+        self.assertTrue(line.startswith(f"refused: {number}, {words}"), line)
+
+    def test_numbers(self):
+        size, method, entries = field(1, b"\2"), field(2, b"\1"), field(3, doubles([1, 0, 0, 1]))
+        for count in (0, 7, 9, 12):
+            matrix = size + method + field(4, bytes(count)) + entries
+            self.assert_fault(matrix, 12, 0, f"{count} bytes of contract numbers, 8 were due")
+        matrix = size + method + field(4, b"\7\0\0\1" * 2) + entries
+        words = "has the contract number 16777223 of row"
+        self.assert_fault(matrix, 13, 1, f"row 1 {words} 0")
+        with tempfile.NamedTemporaryFile(suffix=".csv") as names:
+            names.write(b"corn wheat\n1 0\n0 1")
+            names.flush()
+            shown = self.shown(refused(13, 1), "--names", names.name, "--record", self.file(matrix))
+            self.assertEqual(shown, [f"refused: 13, row wheat {words} corn"])
+            self.assertEqual(self.shown(refused(13, 1), "--names", names.name),
+                             ["refused: 13, row wheat has the contract number of an earlier row"])
+            self.assert_mistake(run("show", "--names", names.name, source=refused(13, 2)),
+                                "the answer's place is row 2")
+        short = size + method + field(4, b"") + field(3, b"")
+        self.assert_fault(short, 4, 0, "0 bytes of entries, 32 were due")
+
+    def test_ties(self):
+        tied = complete([0], [0.0], [2.0], tied=0)
+        ties = ((NUMBERED_EXAMPLE, "ties were settled by contract number"), (MATRIX_EXAMPLE, POSITION))
+        for matrix, words in ties:
+            self.assertEqual(self.told(tied, matrix)[1], f"first tied at step 0: {words}")
+        for text, words in (("4\nnumbers: 7", ties[0][1]), ("4", POSITION)):
+            self.assertEqual(self.shown(tied, "--names", self.file(text))[1], f"first tied at step 0: {words}")
+        untied = self.told(complete([0], [0.0], [2.0]), NUMBERED_EXAMPLE)
+        self.assertEqual(untied[1], "no pivot search was tied")
+        self.assertEqual(self.told(refused(9, 1, tied=0), NUMBERED_EXAMPLE)[1], f"first tied at step 0: {ties[0][1]}")
 
     def test_order(self):
         size, method, entries = MATRIX_EXAMPLE[:4], MATRIX_EXAMPLE[4:8], MATRIX_EXAMPLE[8:]
@@ -332,8 +425,12 @@ class Faults(Case):
                  "the transfer was cut in field 2: 8 bytes of content were due, 7 arrived"),
                 (MATRIX_EXAMPLE + b"\0", 1, 0, "1 byte after the last field"),
                 (MATRIX_EXAMPLE * 2, 1, 0, "19 bytes after the last field"),
-                (b"\0" * 18444, 1, 0, "the record has 18444 bytes, at most 18443 are accepted"),
-                (b"\0" * 18443, 11, 0, "field 0 has tag 00, 01 was due")):
+                (NUMBERED_EXAMPLE + b"\0", 1, 0, "1 byte after the last field"),
+                (two + method + NUMBERED_EXAMPLE[8:], 1, 0, "field 0 has length 2, 1 was due"),
+                (size + NUMBERED_EXAMPLE[8:15] + method + entries, 11, 1, "field 1 has tag 04, 02 was due"),
+                (MATRIX_EXAMPLE + NUMBERED_EXAMPLE[8:15], 1, 0, "7 bytes after the last field"),
+                (b"\0" * 18639, 1, 0, "the record has 18639 bytes, at most 18638 are accepted"),
+                (b"\0" * 18638, 11, 0, "field 0 has tag 00, 01 was due")):
             self.assert_fault(matrix, number, index, words)
 
     def test_other_answers_stay_as_they_are(self):
@@ -354,6 +451,9 @@ class Faults(Case):
                 (refused(11, 1), MATRIX_EXAMPLE, "it isn't refused 11"),
                 (refused(1), MATRIX_EXAMPLE, "it isn't refused 1"),
                 (refused(2), MATRIX_EXAMPLE, "it isn't refused 2"),
+                (refused(12), MATRIX_EXAMPLE, "it isn't refused 12"),
+                (refused(13, 1), NUMBERED_EXAMPLE, "it isn't refused 13"),
+                (refused(7), NUMBERED_EXAMPLE[:8] + field(4, b"") + NUMBERED_EXAMPLE[15:], "it is refused 12"),
                 (refused(10, 1), MATRIX_EXAMPLE[:-1], "it is refused 10, the transfer was cut in field 2: 8 bytes"),
                 (refused(11, 2), MATRIX_EXAMPLE[:-1], "it is refused 10"),
                 (ANSWER_EXAMPLE, b"", "it is refused 10, the transfer was cut in field 0: 3 bytes of header"),

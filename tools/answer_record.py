@@ -3,7 +3,7 @@ import struct
 from typing import List, NamedTuple, Tuple
 
 from matrix_file import LARGEST_N, Mistake
-from matrix_record import TAGS_DUE, tag_words
+from matrix_record import FIELDS_DUE, tag_words
 
 NO_STEP = 0xFF
 COMPLETE_TAGS = [0x11, 0x12, 0x13, 0x14, 0x15, 0x16]
@@ -17,8 +17,9 @@ REFUSALS = {
     6: "index not below n",
     7: "not finite",
     8: "unsymmetric",
+    12: "the contract numbers are not four bytes for each row",
 }
-LAST_REFUSAL = 11
+LAST_REFUSAL = 13
 
 
 class Answer(NamedTuple):
@@ -83,7 +84,7 @@ def complete_answer(contents):
 
 def is_place(refusal, row, column):
     """Whether a refusal with this number can be at this place."""
-    if refusal <= 5:
+    if refusal <= 5 or refusal == 12:
         return row == column == 0
     if refusal == 6:
         return column == 0
@@ -93,7 +94,9 @@ def is_place(refusal, row, column):
         return row < column < LARGEST_N
     if refusal == 9:
         return row <= LARGEST_N and column == 0
-    return row < len(TAGS_DUE) and column == 0
+    if refusal == 13:
+        return 1 <= row < LARGEST_N and column == 0
+    return row < len(FIELDS_DUE) and column == 0
 
 
 def refused_answer(contents):
@@ -137,6 +140,8 @@ def refusal_words(answer, labels):
         return f"the transfer was cut in field {row}"
     if number == 11:
         return f"field {row} has a wrong tag, {tag_words(row)}"
+    if number == 13:
+        return f"row {labels[row]} has the contract number of an earlier row"
     words = REFUSALS[number]
     if number == 6:
         return f"{words}, at position {row}"
@@ -145,10 +150,14 @@ def refusal_words(answer, labels):
     return words
 
 
-def tied_words(step):
+def tied_words(step, numbered):
+    """numbered: whether the record has contract numbers, None if that isn't known."""
     if step == NO_STEP:
         return "no pivot search was tied"
-    return f"first tied at step {step}: the order of rows may have picked the pivot"
+    words = {True: "ties were settled by contract number",
+             False: "the order of rows may have picked the pivot",
+             None: "unless the record has contract numbers, the order of rows may have picked the pivot"}
+    return f"first tied at step {step}: {words[numbered]}"
 
 
 def phase_two_words(step):
@@ -165,10 +174,10 @@ def table(rows):
     return lines
 
 
-def answer_lines(answer, labels, number_words, fault=None):
+def answer_lines(answer, labels, number_words, fault=None, numbered=None):
     """The answer as lines; labels are what to call each row, number_words how to write a number, fault what is known
-    to be wrong in the record."""
-    steps = [tied_words(answer.tied), phase_two_words(answer.phase_two)]
+    to be wrong in the record, numbered whether it is known to have contract numbers."""
+    steps = [tied_words(answer.tied, numbered), phase_two_words(answer.phase_two)]
     if answer.refusal != 0:
         words = f"refused: {answer.refusal}, {fault or refusal_words(answer, labels)}"
         return [words] + (steps if answer.refusal == 9 else [])

@@ -4,6 +4,8 @@ import re
 from typing import List, NamedTuple, Optional
 
 LARGEST_N = 48
+LARGEST_CONTRACT_NUMBER = 2 ** 32 - 1
+CONTRACT_NUMBERS = re.compile(r'\s*"?numbers:"?', re.IGNORECASE)
 NUMBER = re.compile(r"[+-]?((\d+(\.\d*)?|\.\d+)(e[+-]?\d+)?|inf(inity)?|nan)", re.IGNORECASE | re.ASCII)
 
 
@@ -18,9 +20,34 @@ class Line(NamedTuple):
 
 
 class Matrix(NamedTuple):
-    """The entries, and the contracts' names where the file has them."""
+    """The entries, and the contracts' names and numbers where the file has them."""
     rows: List[List[float]]
     names: Optional[List[str]]
+    numbers: Optional[List[int]]
+
+
+# ---- contract numbers
+
+def to_contract_number(word):
+    if re.fullmatch("[0-9]+", word) is None or int(word) > LARGEST_CONTRACT_NUMBER:
+        raise Mistake(f"contract number {word!r} is not a whole number from 0 to {LARGEST_CONTRACT_NUMBER}")
+    return int(word)
+
+
+def split_contract_numbers(numbered):
+    """The contract numbers (None without), and the other lines."""
+    own = [(k, line) for k, line in numbered if CONTRACT_NUMBERS.match(line)]
+    if not own:
+        return None, numbered
+    if len(own) > 1:
+        raise Mistake(f"line {own[1][0]}: a second line of contract numbers")
+    k, line = own[0]
+    words = re.split(r'[\s,;"]+', line[CONTRACT_NUMBERS.match(line).end():])
+    try:
+        numbers = [to_contract_number(word) for word in words if word]
+    except Mistake as mistake:
+        raise Mistake(f"line {k}: {mistake}") from None
+    return numbers, [other for other in numbered if other != own[0]]
 
 
 # ---- lines and cells
@@ -42,9 +69,8 @@ def is_skipped(line):
     return not line.strip() or line.lstrip().startswith("#")
 
 
-def split_lines(text):
-    """The lines that have cells."""
-    numbered = [(k, line) for k, line in enumerate(text.split("\n"), 1) if not is_skipped(line)]
+def split_lines(numbered):
+    """The lines that have cells, from pairs of a line's number and its text."""
     mark = separator([line for _, line in numbered])
     lines = []
     for number, line in numbered:
@@ -119,10 +145,18 @@ def contract_names(header, labels, n):
     return names
 
 
+def check_count(numbers, n):
+    if numbers is not None and len(numbers) != n:
+        raise Mistake(f"{len(numbers)} contract numbers for {n} rows")
+
+
 def parse_matrix(text):
-    header, labels, lines = split_names(split_lines(text))
+    numbered = [(k, line) for k, line in enumerate(text.split("\n"), 1) if not is_skipped(line)]
+    numbers, numbered = split_contract_numbers(numbered)
+    header, labels, lines = split_names(split_lines(numbered))
     check_square(lines)
-    return Matrix(to_doubles(lines), contract_names(header, labels, len(lines)))
+    check_count(numbers, len(lines))
+    return Matrix(to_doubles(lines), contract_names(header, labels, len(lines)), numbers)
 
 
 def read_matrix(path):

@@ -1,36 +1,48 @@
-"""Matrix records (document 01, 'Matrix, answer and record'), written and judged, for tools/record."""
+"""Matrix records (documents 01, 'Matrix, answer and record', and 02, N2), written and judged, for tools/record."""
 import struct
+from typing import NamedTuple, Optional
 
 from matrix_file import LARGEST_N, Mistake
 
-TAGS_DUE = [0x01, 0x02, 0x03]
+SIZE, METHOD, ENTRIES, NUMBERS = 0x01, 0x02, 0x03, 0x04
+FIELDS_DUE = [[SIZE], [METHOD], [ENTRIES, NUMBERS], [ENTRIES]]
 HEADER = 3
-LONGEST = 18443
+LONGEST = 18638
 METHODS = {"gmw81": 1, "se90": 2, "se99": 3}
 
 
 class Refused(Exception):
-    """A refusal from 1 to 4, 10 or 11 of a record; its text says what is wrong."""
+    """A refusal from 1 to 4 or 10 to 13 of a record; its text says what is wrong."""
 
-    def __init__(self, number, words, field=0):
+    def __init__(self, number, words, row=0):
         super().__init__(words)
         self.number = number
-        self.place = (field, 0)
+        self.place = (row, 0)
+
+
+class Judged(NamedTuple):
+    """What is known of a record: what is wrong in it (None if it passes the checks before 5), and whether it has
+    contract numbers (None if its fields don't stand)."""
+    fault: Optional[str]
+    numbered: Optional[bool]
 
 
 def field(tag, content):
     return struct.pack("<BH", tag, len(content)) + content
 
 
-def matrix_record(method, rows):
-    entries = b"".join(struct.pack("<d", entry) for row in rows for entry in row)
-    return b"".join(map(field, TAGS_DUE, [bytes([len(rows)]), bytes([method]), entries]))
+def matrix_record(method, rows, numbers=None):
+    size, method = field(SIZE, bytes([len(rows)])), field(METHOD, bytes([method]))
+    entries = field(ENTRIES, b"".join(struct.pack("<d", entry) for row in rows for entry in row))
+    if numbers is None:
+        return size + method + entries
+    return size + method + field(NUMBERS, struct.pack(f"<{len(numbers)}I", *numbers)) + entries
 
 
 # ---- the checks, in their order
 
 def tag_words(index):
-    return f"{TAGS_DUE[index]:02X} was due"
+    return " or ".join(f"{tag:02X}" for tag in FIELDS_DUE[index]) + " was due"
 
 
 def bytes_words(count):
@@ -45,42 +57,59 @@ def check_arrived(index, part, due, arrived):
 
 
 def take_field(index, record):
-    """The content of the record's first field, which has this index, and what follows it."""
+    """The tag and content of the record's first field, which has this index, and what follows it."""
     check_arrived(index, "header", HEADER, len(record))
     tag, length = struct.unpack_from("<BH", record)
     end = HEADER + length
     check_arrived(index, "content", length, len(record) - HEADER)
-    if tag != TAGS_DUE[index]:
+    if tag not in FIELDS_DUE[index]:
         raise Refused(11, f"field {index} has tag {tag:02X}, {tag_words(index)}", index)
-    return record[HEADER:end], record[end:]
+    return tag, record[HEADER:end], record[end:]
 
 
 def take_fields(record):
-    """The contents of n, method and entries."""
+    """The contents of n, method, numbers (None without) and entries."""
     if len(record) > LONGEST:
         raise Refused(1, f"the record has {len(record)} bytes, at most {LONGEST} are accepted")
-    contents, rest = [], record
-    for index in range(len(TAGS_DUE)):
-        content, rest = take_field(index, rest)
-        contents.append(content)
-    for index, content in enumerate(contents[:2]):
-        if len(content) != 1:
-            raise Refused(1, f"field {index} has length {len(content)}, 1 was due")
+    contents, rest = {NUMBERS: None}, record
+    for index in range(len(FIELDS_DUE)):
+        tag, contents[tag], rest = take_field(index, rest)
+        if tag == ENTRIES:
+            break
+    for index, tag in enumerate((SIZE, METHOD)):
+        if len(contents[tag]) != 1:
+            raise Refused(1, f"field {index} has length {len(contents[tag])}, 1 was due")
     if rest:
         raise Refused(1, f"{bytes_words(len(rest))} after the last field")
-    return contents
+    return contents[SIZE], contents[METHOD], contents[NUMBERS], contents[ENTRIES]
 
 
-def checked_size(record):
-    """Its n, if the record passes the checks 1, 10, 11, 2, 3 and 4."""
-    (n,), (method,), entries = take_fields(record)
+def label(labels, row):
+    return labels[row] if row < len(labels) else str(row)
+
+
+def check_numbers(content, n, labels):
+    if len(content) != 4 * n:
+        raise Refused(12, f"{bytes_words(len(content))} of contract numbers, {4 * n} were due")
+    numbers = [number for number, in struct.iter_unpack("<I", content)]
+    for later, number in enumerate(numbers):
+        earlier = numbers.index(number)
+        if earlier < later:
+            words = f"row {label(labels, later)} has the contract number {number} of row {label(labels, earlier)}"
+            raise Refused(13, words, later)
+
+
+def check_sizes(fields, labels):
+    """The checks 2, 3, 4, 12 and 13."""
+    (n,), (method,), numbers, entries = fields
     if method not in METHODS.values():
         raise Refused(2, f"unknown method {method}")
     if not 1 <= n <= LARGEST_N:
         raise Refused(3, f"n is {n}")
     if len(entries) != 8 * n * n:
         raise Refused(4, f"{bytes_words(len(entries))} of entries, {8 * n * n} were due")
-    return n
+    if numbers is not None:
+        check_numbers(numbers, n, labels)
 
 
 # ---- beside an answer
@@ -91,7 +120,7 @@ def check_refusal(answer, refused):
 
 
 def check_accepted(answer, n):
-    if answer.refusal in (1, 2, 3, 4, 10, 11):
+    if answer.refusal in (1, 2, 3, 4, 10, 11, 12, 13):
         raise Mistake(f"it isn't refused {answer.refusal}")
     if answer.p and len(answer.p) != n:
         raise Mistake(f"it has {n} rows, the answer {len(answer.p)}")
@@ -101,24 +130,26 @@ def check_accepted(answer, n):
         raise Mistake(f"it has {n} rows, the answer's step is {answer.place[0]}")
 
 
-def fault_words(record, answer):
-    """What is wrong in a record that the answer refuses 1 to 4, 10 or 11; None if it passes these."""
+def judged(record, answer, labels):
+    numbered = None
     try:
-        n = checked_size(record)
+        fields = take_fields(record)
+        numbered = fields[2] is not None
+        check_sizes(fields, labels)
     except Refused as refused:
         check_refusal(answer, refused)
-        return str(refused)
-    check_accepted(answer, n)
-    return None
+        return Judged(str(refused), numbered)
+    check_accepted(answer, fields[0][0])
+    return Judged(None, numbered)
 
 
-def read_fault_words(path, answer):
+def read_judged(path, answer, labels):
     try:
         with open(path, "rb") as file:
             record = file.read()
     except OSError as error:
         raise Mistake(f"{path}: {error.strerror}") from None
     try:
-        return fault_words(record, answer)
+        return judged(record, answer, labels)
     except Mistake as mistake:
         raise Mistake(f"{path} is not the record that was answered: {mistake}") from None

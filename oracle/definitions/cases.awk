@@ -26,10 +26,11 @@ BEGIN {
 {
     if ((NR - 1) % 20 == 0) start()
     n = $2
-    p = 7 + n * n
+    a = 8 + $7
+    p = a + n * n
     name = "c" ((NR - 1) % 20)
     print "" > file
-    print name " : answer " method[$1] " " n " (" list(7, p - 1, "0x") "[]) ≡ " $5 " ∷ " $6 " ∷ " $3 " ∷ " $4 " ∷ " list(p, p + n - 1, "") list(p + n, NF, "0x") "[]" > file
+    print name " : answer " method[$1] " (" list(8, a - 1, "") "[]) " n " (" list(a, p - 1, "0x") "[]) ≡ " $5 " ∷ " $6 " ∷ " $3 " ∷ " $4 " ∷ " list(p, p + n - 1, "") list(p + n, NF, "0x") "[]" > file
     print "unfolding answer add sub mul div lt eq neg isNan" > file
     print name " = refl" > file
 }

@@ -2,8 +2,10 @@
 
 pub mod generate;
 pub mod helpers;
+pub mod numbered;
 pub mod record;
 pub mod replay;
+pub mod second;
 pub mod table;
 
 use modcholesky::{Decomposition, ModCholeskyGMW81, ModCholeskySE90, ModCholeskySE99};

@@ -2,12 +2,15 @@
 
 mod checks;
 
-pub use checks::{checked, Input, Refusal, DUE, MALFORMED, PAST_END, TAG_NOT_DUE};
+pub use checks::{
+    checked, Input, Refusal, DUE, MALFORMED, NUMBERED_DUE, NUMBERS_LENGTH, NUMBER_REPEATED,
+    PAST_END, TAG_NOT_DUE,
+};
 
-use crate::{factor, Answer, COMPLETE, NOT_FINITE};
+use crate::{factor, second, Answer, COMPLETE, NOT_FINITE};
 
-/// Bytes of the longest matrix record.
-pub const LONGEST: usize = 18_443;
+/// Bytes of the longest matrix record: of 48 rows, with numbers.
+pub const LONGEST: usize = 18_638;
 pub const MAX_N: u8 = 48;
 
 const NONE: u8 = 0xff;
@@ -41,8 +44,27 @@ pub fn matrix_record(method: u8, n: u8, entries: &[f64]) -> Vec<u8> {
 
 /// The fields due, of any lengths.
 pub fn sized_record(n: &[u8], method: &[u8], entries: &[u8]) -> Vec<u8> {
-    let contents = [n, method, entries];
-    let fields = DUE.iter().zip(contents);
+    of_fields(&DUE, &[n, method, entries])
+}
+
+/// Four bytes each, the low byte first.
+pub fn number_bytes(numbers: &[u32]) -> Vec<u8> {
+    let each = numbers.iter();
+    each.flat_map(|number| number.to_le_bytes()).collect()
+}
+
+pub fn numbered_record(method: u8, n: u8, numbers: &[u32], entries: &[f64]) -> Vec<u8> {
+    sized_numbered_record(&[n], &[method], &number_bytes(numbers), &bytes(entries))
+}
+
+/// The same with field 04.
+pub fn sized_numbered_record(n: &[u8], method: &[u8], numbers: &[u8], entries: &[u8]) -> Vec<u8> {
+    of_fields(&NUMBERED_DUE, &[n, method, numbers, entries])
+}
+
+/// A field for each tag.
+pub fn of_fields(tags: &[u8], contents: &[&[u8]]) -> Vec<u8> {
+    let fields = tags.iter().zip(contents);
     fields
         .flat_map(|(tag, content)| field(*tag, content))
         .collect()
@@ -52,9 +74,7 @@ pub fn reply(record: &[u8]) -> Reply {
     match checked(record) {
         Ok(input) => run(&input),
         Err(refusal) => Reply {
-            header: checks::fields(record)
-                .ok()
-                .map(|(n, method, _)| (method, n)),
+            header: checks::fields(record).ok().map(|f| (f.method, f.n)),
             outcome: Err(refusal),
             tied: None,
             phase_two: None,
@@ -62,8 +82,18 @@ pub fn reply(record: &[u8]) -> Reply {
     }
 }
 
+/// The Rust's answer or, where it can't be asked, the second implementation's.
 fn run(input: &Input) -> Reply {
-    let answer = factor(input.method, usize::from(input.n), &input.matrix);
+    let (n, matrix) = (usize::from(input.n), &input.matrix);
+    let answer = match &input.numbers {
+        None => factor(input.method, n, matrix),
+        Some(numbers) => second::factor(input.method, n, matrix, Some(numbers)),
+    };
+    replied((input.method, input.n), answer)
+}
+
+/// What is answered where a run comes to `answer`.
+pub fn replied(header: (u8, u8), answer: Answer) -> Reply {
     let (tied, phase_two) = (answer.tied, answer.phase_two);
     let outcome = match answer.refusal {
         COMPLETE => Ok(answer),
@@ -74,7 +104,7 @@ fn run(input: &Input) -> Reply {
         other => panic!("no answer of document 01: {other}"),
     };
     Reply {
-        header: Some((input.method, input.n)),
+        header: Some(header),
         outcome,
         tied,
         phase_two,

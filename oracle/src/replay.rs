@@ -1,9 +1,11 @@
-//! The list that the program `replay` runs through the port: records, with the oracle's answers.
+//! The list that the program `replay` runs through the port: records, with the oracle's answers and, where
+//! they have contract numbers, the second implementation's.
 
 mod entries;
 mod fields;
 mod generated;
 mod hand;
+mod numbered;
 mod phase_one;
 mod shape;
 mod sides;
@@ -54,6 +56,7 @@ pub fn list() -> Vec<Entry> {
         ties::all(),
         sides::all(),
         generated::all(),
+        numbered::all(),
     ]
     .concat()
 }

@@ -1,6 +1,8 @@
 //! Records and answers byte by byte.
 
-use oracle::record::{field, matrix_record, reply, sized_record, LONGEST};
+use oracle::record::{
+    field, matrix_record, numbered_record, reply, sized_numbered_record, sized_record, LONGEST,
+};
 use oracle::replay::framed;
 use oracle::{GMW81, SE90, SE99};
 
@@ -27,7 +29,11 @@ fn the_example() {
 #[test]
 fn lengths_at_48() {
     let record = matrix_record(SE99, 48, &[1.0; 48 * 48]);
-    assert_eq!((record.len(), LONGEST), (18_443, 18_443));
+    assert_eq!(record.len(), 18_443);
+    assert_eq!(answer(&record).len(), 18_885);
+    let numbers: Vec<u32> = (0..48).collect();
+    let record = numbered_record(SE99, 48, &numbers, &[1.0; 48 * 48]);
+    assert_eq!((record.len(), LONGEST), (18_638, 18_638));
     assert_eq!(answer(&record).len(), 18_885);
 }
 
@@ -101,11 +107,11 @@ fn lengths_and_bytes_after_are_judged_after_the_fields() {
         ("01 01 00 01 02 02 00 01 01 03 00 00", (1, 0)),
         ("01 01 00 01 02 01 00 01 03 00 00 04", (1, 0)),
         ("01 00 00 07 01 00 01 03 00 00", (11, 1)),
-        ("01 00 00 02 01 00 01 04 00 00", (11, 2)),
+        ("01 00 00 02 01 00 01 05 00 00", (11, 2)),
         ("01 00 00 02 01 00", (10, 1)),
         ("01 00 00 02 01 00 01 03 01 00", (10, 2)),
         ("01 01 00 01 02 02 00 01 01 03 00", (10, 2)),
-        ("01 01 00 01 02 02 00 01 01 04 00 00", (11, 2)),
+        ("01 01 00 01 02 02 00 01 01 05 00 00", (11, 2)),
         ("01 00 00 02 00 00 03 00 00 03", (1, 0)),
     ]);
 }
@@ -139,13 +145,73 @@ fn lengths_have_their_low_byte_first() {
     assert_eq!(framed(&[9; 0x0120], &[])[..3], [0x20, 0x01, 9]);
 }
 
+/// Of the diagonal 1, 1, 3: by number the second pivot is contract 0, which the first swap put last.
+#[test]
+fn a_tie_by_number() {
+    let diagonal = [1.0, 0.0, 0.0, 0.0, 1.0, 0.0, 0.0, 0.0, 3.0];
+    let record = numbered_record(GMW81, 3, &[0, 1, 0x0102_0304], &diagonal);
+    let start = "01 01 00 03 02 01 00 01 04 0C 00 00 00 00 00 01 00 00 00 04 03 02 01 03 48 00";
+    assert_eq!(record[..26], bytes(start));
+    assert_eq!(answer(&record)[12..18], bytes("14 03 00 02 00 01"));
+    let without = answer(&matrix_record(GMW81, 3, &diagonal));
+    assert_eq!(without[12..18], bytes("14 03 00 02 01 00"));
+    assert_eq!(answer(&record)[..12], without[..12]);
+}
+
+#[test]
+fn fields_of_a_numbered_record() {
+    refused(&[
+        ("01 01 00 01 02 01 00 01 04", (10, 2)),
+        ("01 01 00 01 02 01 00 01 04 04 00 00 00 00", (10, 2)),
+        ("01 01 00 01 02 01 00 01 04 00 00", (10, 3)),
+        ("01 01 00 01 02 01 00 01 04 00 00 04 00 00", (11, 3)),
+        ("01 01 00 01 02 01 00 01 04 00 00 05 00 00", (11, 3)),
+        ("01 01 00 01 02 01 00 01 05 00 00 03 00 00", (11, 2)),
+        ("04 00 00 01 01 00 01 02 01 00 01 03 00 00", (11, 0)),
+        ("01 01 00 01 04 00 00 02 01 00 01 03 00 00", (11, 1)),
+        ("01 01 00 01 02 01 00 01 03 00 00 04 00 00", (1, 0)),
+        ("01 01 00 01 02 01 00 01 04 00 00 03 00 00 00", (1, 0)),
+        ("01 00 00 02 01 00 01 04 00 00 03 00 00", (1, 0)),
+        ("01 00 00 02 01 00 01 04 00 00 04 00 00", (11, 3)),
+    ]);
+}
+
+#[test]
+fn numbers_are_checked_after_4_and_before_7() {
+    let nan = f64::NAN.to_le_bytes();
+    let one = |numbers: &[u8], entries: &[u8]| {
+        refusal(&sized_numbered_record(&[1], &[GMW81], numbers, entries))
+    };
+    assert_eq!(one(&[], &nan[1..]), (4, [0, 0]));
+    for length in [0, 3, 5, 8] {
+        assert_eq!(one(&vec![0; length], &nan), (12, [0, 0]));
+    }
+    assert_eq!(one(&[0; 4], &nan), (7, [0, 0]));
+    let repeated = |numbers: &[u32]| {
+        let n = numbers.len();
+        refusal(&numbered_record(
+            SE90,
+            n as u8,
+            numbers,
+            &vec![f64::NAN; n * n],
+        ))
+    };
+    assert_eq!(repeated(&[5, 5]), (13, [1, 0]));
+    assert_eq!(repeated(&[1, 2, 3, 2, 1]), (13, [3, 0]));
+    assert_eq!(repeated(&[1, 2, 2, 1]), (13, [2, 0]));
+    assert_eq!(repeated(&[1, 2, 3, 1]), (13, [3, 0]));
+    assert_eq!(repeated(&[0, 1 << 24, 1 << 16, 1 << 8]), (7, [0, 0]));
+}
+
 #[test]
 fn one_byte_more_than_the_longest() {
     let content = vec![0; LONGEST - 10];
     let record = sized_record(&[48], &[GMW81], &content);
-    assert_eq!((record.len(), refusal(&record)), (18_444, (1, [0, 0])));
-    let shorter = sized_record(&[48], &[GMW81], &content[2..]);
-    assert_eq!((shorter.len(), refusal(&shorter)), (18_442, (4, [0, 0])));
+    assert_eq!((record.len(), refusal(&record)), (18_639, (1, [0, 0])));
+    let shorter = sized_record(&[48], &[GMW81], &content[1..]);
+    assert_eq!((shorter.len(), refusal(&shorter)), (18_638, (4, [0, 0])));
+    let numbered = sized_numbered_record(&[48], &[GMW81], &[0; 193], &content[..18_432]);
+    assert_eq!((numbered.len(), refusal(&numbered)), (18_639, (1, [0, 0])));
 }
 
 #[test]

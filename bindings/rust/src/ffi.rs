@@ -71,6 +71,40 @@ extern "C" {
         p: *mut u8,
         p_len: usize,
     ) -> Factorization;
+    pub fn millracer_factor_numbered_doubles(
+        method: usize,
+        a: *const f64,
+        a_len: usize,
+        n: usize,
+        numbers: *const u32,
+        numbers_len: usize,
+        l: *mut f64,
+        l_len: usize,
+        work: *mut f64,
+        work_len: usize,
+        e: *mut f64,
+        e_len: usize,
+        p: *mut usize,
+        p_len: usize,
+    ) -> Factorization;
+    // By the comparison alone.
+    #[allow(dead_code)]
+    pub fn millracer_factor_numbered_bytes(
+        method: usize,
+        a: *const u8,
+        a_len: usize,
+        n: usize,
+        numbers: *const u8,
+        numbers_len: usize,
+        l: *mut u8,
+        l_len: usize,
+        work: *mut u8,
+        work_len: usize,
+        e: *mut u8,
+        e_len: usize,
+        p: *mut u8,
+        p_len: usize,
+    ) -> Factorization;
     pub fn millracer_record(
         record: *const u8,
         record_len: usize,

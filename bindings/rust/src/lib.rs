@@ -19,7 +19,8 @@ mod refusal;
 mod root;
 
 pub use factor::{
-    factor, mod_cholesky_gmw81, mod_cholesky_se90, mod_cholesky_se99, Decomposition, Ended, Method,
+    factor, factor_numbered, mod_cholesky_gmw81, mod_cholesky_numbered, mod_cholesky_se90,
+    mod_cholesky_se99, Decomposition, Ended, Method,
 };
 pub use helpers::{
     diag_mat_from_arr, eigenvalues_2x2, gershgorin_circles, index_of_largest, index_of_largest_abs,

@@ -3,7 +3,8 @@ use std::error::Error;
 use std::fmt;
 
 /// Why a call was refused, by number. Only a record is refused 1, 10 and 11: 1 where it is too long, then
-/// 10 or 11 of its first offending field, then 1 for the rest, then 2 and so on in checking order.
+/// 10 or 11 of its first offending field, then 1 for the rest, then 2 and so on in checking order. 12 and 13
+/// come after 4 and before 5, where there are contract numbers.
 #[derive(Clone, Copy, Debug, PartialEq, Eq)]
 pub enum Refusal {
     /// A record that is too long, or has a wrong length of field 01 or 02, or bytes after the last field.
@@ -37,24 +38,31 @@ pub enum Refusal {
     FieldPastEnd {
         field: usize,
     },
-    /// The record's field, from 0, has this tag and not the one due.
+    /// The record's field, from 0, has this tag, which isn't due.
     TagNotDue {
         field: usize,
         tag: u8,
     },
+    /// Not n contract numbers; in a record not four bytes for each.
+    NumbersLength,
+    /// The first contract number that came before, by its position.
+    NumberRepeated {
+        position: usize,
+    },
 }
 
-/// The tag due at a field of a matrix record, from 0.
-fn tag_due(field: usize) -> u8 {
+/// The tags due at a field of a matrix record, from 0: before the entries contract numbers may stand.
+fn tags_due(field: usize) -> &'static str {
     match field {
-        0 => 0x01,
-        1 => 0x02,
-        _ => 0x03,
+        0 => "01",
+        1 => "02",
+        2 => "03 or 04",
+        _ => "03",
     }
 }
 
 impl Refusal {
-    /// From 1 to 11.
+    /// From 1 to 13.
     pub fn number(self) -> usize {
         match self {
             Refusal::MalformedRecord => 1,
@@ -68,6 +76,8 @@ impl Refusal {
             Refusal::StoredNotFinite { .. } => 9,
             Refusal::FieldPastEnd { .. } => 10,
             Refusal::TagNotDue { .. } => 11,
+            Refusal::NumbersLength => 12,
+            Refusal::NumberRepeated { .. } => 13,
         }
     }
 
@@ -80,6 +90,7 @@ impl Refusal {
             Refusal::StoredNotFinite { step } => (step, 0),
             Refusal::FieldPastEnd { field } => (field, 0),
             Refusal::TagNotDue { field, .. } => (field, 0),
+            Refusal::NumberRepeated { position } => (position, 0),
             _ => (0, 0),
         }
     }
@@ -113,8 +124,12 @@ impl fmt::Display for Refusal {
                 write!(f, "the transfer was cut in field {field}")
             }
             Refusal::TagNotDue { field, tag } => {
-                let due = tag_due(field);
-                write!(f, "field {field} has tag {tag:02X}, {due:02X} was due")
+                let due = tags_due(field);
+                write!(f, "field {field} has tag {tag:02X}, {due} was due")
+            }
+            Refusal::NumbersLength => write!(f, "not each row has a contract number"),
+            Refusal::NumberRepeated { position } => {
+                write!(f, "row {position} has the contract number of an earlier row")
             }
         }
     }
@@ -136,6 +151,8 @@ pub(crate) fn ended(r: ffi::Refusal) -> Result<(), Refusal> {
         7 => Refusal::NotFinite { row, column },
         8 => Refusal::Unsymmetric { row, column },
         9 => Refusal::StoredNotFinite { step: row },
+        12 => Refusal::NumbersLength,
+        13 => Refusal::NumberRepeated { position: row },
         number => unreachable!("no refusal has the number {number}"),
     })
 }

@@ -170,6 +170,74 @@ fn lent_buffers() {
     assert_eq!((l, work, e, p), ([0.0; 4], [0.0; 4], [0.0; 2], [0, 1]));
 }
 
+/// The diagonal 1, 1, 3: after the first swap contract 0 stands last.
+const TIED: [f64; 9] = [1.0, 0.0, 0.0, 0.0, 1.0, 0.0, 0.0, 0.0, 3.0];
+const METHODS: [Method; 3] = [Method::Gmw81, Method::Se90, Method::Se99];
+
+#[test]
+fn contract_numbers() {
+    for method in METHODS {
+        let run = |numbers: &[u32]| mod_cholesky_numbered(method, &TIED, 3, numbers);
+        for (numbers, p) in [
+            ([0, 1, 2], [2, 0, 1]),
+            ([7, 5, 6], [2, 1, 0]),
+            ([u32::MAX - 1, u32::MAX, 0], [2, 0, 1]),
+            ([1 << 8, 1, 2], [2, 1, 0]),
+        ] {
+            let d = run(&numbers).unwrap();
+            assert_eq!((d.p, d.tied, d.phase2), (p.to_vec(), Some(1), None));
+        }
+        for numbers in [&[][..], &[1, 2], &[1, 2, 3, 4]] {
+            assert_eq!(run(numbers), Err(Refusal::NumbersLength));
+        }
+        for (numbers, position) in [([5, 5, 5], 1), ([5, 6, 5], 2), ([5, 6, 6], 2)] {
+            assert_eq!(run(&numbers), Err(Refusal::NumberRepeated { position }));
+        }
+    }
+    assert_eq!(mod_cholesky_gmw81(&TIED, 3).unwrap().p, [2, 1, 0]);
+}
+
+/// 3, 4, 12, 13, 5, 7, 8, each before the next.
+#[test]
+fn numbers_among_the_checks() {
+    let (mut l, mut work) = ([7.0; 4], [7.0; 4]);
+    let (mut e, mut p) = ([7.0; 2], [7; 2]);
+    let mut run = |a: &[f64], n: usize, numbers: &[u32], e_len: usize| {
+        let e = &mut e[..e_len];
+        let ended = factor_numbered(Method::Se99, a, n, numbers, &mut l, &mut work, e, &mut p);
+        assert_eq!((ended.tied, ended.phase2), (None, None));
+        assert_eq!((l, work, p), ([7.0; 4], [7.0; 4], [7; 2]));
+        ended.outcome.unwrap_err().number()
+    };
+    let (nan, unsymmetric) = ([f64::NAN; 4], [1.0, 0.0, -0.0, 1.0]);
+    assert_eq!(run(&nan, 49, &[1], 1), 3);
+    assert_eq!(run(&nan[1..], 2, &[1], 1), 4);
+    assert_eq!(run(&nan, 2, &[1, 1, 1], 1), 12);
+    assert_eq!(run(&nan, 2, &[1, 1], 1), 13);
+    assert_eq!(run(&nan, 2, &[1, 2], 1), 5);
+    assert_eq!(run(&nan, 2, &[1, 2], 2), 7);
+    assert_eq!(run(&unsymmetric, 2, &[1, 2], 2), 8);
+}
+
+/// Contracts loaded in another order, their numbers with them.
+#[test]
+fn load_order_by_number() {
+    let a = [2.0, 1.0, 0.5, 1.0, 2.0, -1.0, 0.5, -1.0, 2.0];
+    let (numbers, s) = ([30, 10, 20], [2, 0, 1]);
+    let first = mod_cholesky_numbered(Method::Gmw81, &a, 3, &numbers).unwrap();
+    let reloaded: Vec<f64> = s
+        .iter()
+        .flat_map(|&i| s.iter().map(move |&j| a[3 * i + j]))
+        .collect();
+    let moved = s.map(|i| numbers[i]);
+    let second = mod_cholesky_numbered(Method::Gmw81, &reloaded, 3, &moved).unwrap();
+    assert_eq!((first.p[0], first.tied), (1, Some(0)));
+    assert_eq!((&first.l, first.tied), (&second.l, second.tied));
+    assert_eq!(s.map(|i| first.e[i]).to_vec(), second.e);
+    let contracts: Vec<usize> = second.p.iter().map(|&row| s[row]).collect();
+    assert_eq!(first.p, contracts);
+}
+
 #[test]
 fn refusals_in_words() {
     let refusal = mod_cholesky_se99(&[1.0, 2.0, 3.0, 1.0], 2).unwrap_err();
@@ -237,7 +305,8 @@ fn cut_records() {
 #[test]
 fn wrong_tags() {
     for (field, start, end) in FIELDS {
-        for tag in (0..=255).filter(|&tag| tag != MATRIX[start]) {
+        let due = |tag: u8| tag == MATRIX[start] || (field, tag) == (2, 4);
+        for tag in (0..=255).filter(|&tag| !due(tag)) {
             let mut record = MATRIX;
             record[start] = tag;
             for length in [end, MATRIX.len()] {
@@ -249,6 +318,39 @@ fn wrong_tags() {
             assert_eq!(refused(&record[..end - 1]), cut);
         }
     }
+}
+
+/// With the contract number 9.
+const NUMBERED: [u8; 26] = [
+    1, 1, 0, 1, 2, 1, 0, 1, 4, 4, 0, 9, 0, 0, 0, 3, 8, 0, 0, 0, 0, 0, 0, 0, 0x10, 0x40,
+];
+
+#[test]
+fn numbered_records() {
+    assert_eq!(record(&NUMBERED), record(&MATRIX));
+    for (field, start, end) in [(2, 8, 15), (3, 15, 26)] {
+        for length in start..end {
+            let cut = Refusal::FieldPastEnd { field };
+            assert_eq!(refused(&NUMBERED[..length]), cut);
+        }
+    }
+    for tag in (0..=255).filter(|&tag| tag != 3) {
+        let mut record = NUMBERED;
+        record[15] = tag;
+        assert_eq!(refused(&record), Refusal::TagNotDue { field: 3, tag });
+    }
+    let short = [&NUMBERED[..8], &[4, 3, 0, 9, 0, 0], &NUMBERED[15..]].concat();
+    assert_eq!(refused(&short), Refusal::NumbersLength);
+    let mut two = vec![
+        1, 1, 0, 2, 2, 1, 0, 1, 4, 8, 0, 9, 0, 0, 1, 9, 0, 0, 1, 3, 32, 0,
+    ];
+    two.extend([0; 32]);
+    let repeated = Refusal::NumberRepeated { position: 1 };
+    assert_eq!(refused(&two), repeated);
+    assert_eq!((repeated.number(), repeated.place()), (13, (1, 0)));
+    two[15] = 8;
+    assert_eq!(record_answer(&two).outcome, Ok(()));
+    assert_eq!(record(&two)[7], 0);
 }
 
 /// The tag is found by the lengths that the fields have, whatever they are.
@@ -275,6 +377,23 @@ fn broken_records_in_words() {
     assert_eq!(
         words(&without_method),
         "refusal 11: field 1 has tag 03, 02 was due"
+    );
+    let method_twice = [&MATRIX[..8], &MATRIX[4..8]].concat();
+    assert_eq!(
+        words(&method_twice),
+        "refusal 11: field 2 has tag 02, 03 or 04 was due"
+    );
+    assert_eq!(
+        words(&[&NUMBERED[..15], &NUMBERED[8..]].concat()),
+        "refusal 11: field 3 has tag 04, 03 was due"
+    );
+    assert_eq!(
+        Refusal::NumbersLength.to_string(),
+        "refusal 12: not each row has a contract number"
+    );
+    assert_eq!(
+        Refusal::NumberRepeated { position: 2 }.to_string(),
+        "refusal 13: row 2 has the contract number of an earlier row"
     );
     assert_eq!(
         words(&[&MATRIX[..], &[0]].concat()),

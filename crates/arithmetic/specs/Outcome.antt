@@ -1,9 +1,9 @@
--- The number and place of each way a call can end: document 01, 'Refusals, in checking order'; 10 and 11 are document 02's, N1.
+-- The number and place of each way a call can end: document 01, 'Refusals, in checking order'; 10 to 13 are document 02's, N1 and N2.
 use Prim.Native.Nat.{ℕ}
 use mathlib.Core.Bool.{Bool, cond}
 use lib.Dec.{eqb}
 use Rattle.arithmetic.specs.declared.outcome.Outcome.{Outcome}
-use Rattle.arithmetic.specs.declared.outcome.Outcome.the-variants.{Complete, MalformedRecord, UnknownMethod, SizeOutOfRange, MatrixLength, BufferLength, IndexOutOfRange, NotFinite, Unsymmetric, StoredNotFinite, FieldPastEnd, TagNotDue}
+use Rattle.arithmetic.specs.declared.outcome.Outcome.the-variants.{Complete, MalformedRecord, UnknownMethod, SizeOutOfRange, MatrixLength, BufferLength, IndexOutOfRange, NotFinite, Unsymmetric, StoredNotFinite, FieldPastEnd, TagNotDue, NumbersLength, NumberRepeated}
 use Rattle.arithmetic.specs.declared.outcome.Place.{Place}
 
 abbrev pub number : Outcome → ℕ
@@ -19,6 +19,8 @@ number (Unsymmetric row column) = 8
 number (StoredNotFinite step) = 9
 number (FieldPastEnd field) = 10
 number (TagNotDue field) = 11
+number NumbersLength = 12
+number (NumberRepeated position) = 13
 
 -- a position, step or field
 abbrev pub alone : ℕ → Place
@@ -41,6 +43,8 @@ place (Unsymmetric row column) = record { row = row; column = column }
 place (StoredNotFinite step) = alone step
 place (FieldPastEnd field) = alone field
 place (TagNotDue field) = alone field
+place NumbersLength = nowhere
+place (NumberRepeated position) = alone position
 
 -- ---- checks: each is an outcome, and the first that fails decides
 abbrev pub complete : Outcome → Bool

@@ -1,8 +1,9 @@
-// How a call ends: complete, or with one refusal (document 01, 'Refusals, in checking order').
+// How a call ends: complete, or with one refusal (document 01, 'Refusals, in checking order', and document 02).
 ghost use mathlib.Core.Path.{_≡_};
 ghost use Rattle.arithmetic.specs.Outcome.{number, alone, place, complete, _then_};
 
-// By their numbers. A record is checked for 1 (too long), 10 or 11, 1 (lengths, bytes after the last field), then 2 on.
+// By their numbers. A record is checked for 1 (too long), 10 or 11, 1 (lengths, bytes after the last field), then 2 on; 12 and 13 come
+// between 4 and 5.
 pub enum Outcome {
     Complete,
     // The record is too long, or its fields stand in order and a length, or a byte after them, is wrong.
@@ -23,6 +24,10 @@ pub enum Outcome {
     FieldPastEnd { field: usize },
     // A record's field has a tag that isn't due.
     TagNotDue { field: usize },
+    // There are more or fewer contract numbers than rows.
+    NumbersLength,
+    // A contract number that came before.
+    NumberRepeated { position: usize },
 }
 
 // Row and column, or position, step or field and 0; 0 and 0 where no place is named.
@@ -57,6 +62,8 @@ impl Outcome {
             Outcome::StoredNotFinite { step: _ } => 9,
             Outcome::FieldPastEnd { field: _ } => 10,
             Outcome::TagNotDue { field: _ } => 11,
+            Outcome::NumbersLength => 12,
+            Outcome::NumberRepeated { position: _ } => 13,
         }
     }
 
@@ -83,12 +90,14 @@ impl Outcome {
             Outcome::StoredNotFinite { step } => Place::alone(step),
             Outcome::FieldPastEnd { field } => Place::alone(field),
             Outcome::TagNotDue { field } => Place::alone(field),
+            Outcome::NumberRepeated { position } => Place::alone(position),
             Outcome::Complete => Place::alone(0),
             Outcome::MalformedRecord => Place::alone(0),
             Outcome::UnknownMethod => Place::alone(0),
             Outcome::SizeOutOfRange => Place::alone(0),
             Outcome::MatrixLength => Place::alone(0),
             Outcome::BufferLength => Place::alone(0),
+            Outcome::NumbersLength => Place::alone(0),
         }
     }
 }

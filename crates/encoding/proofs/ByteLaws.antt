@@ -27,3 +27,9 @@ pub eights : (k len : ℕ) → len % 8 ≡ 0 → eqb (len / 8) k ≡ eqb len (8 
 eights k len h = same-tests (eqb (len / 8) k) (eqb len (8 * k))
     (λ t. eq-eqb len (8 * k) (omega (arith, eqb-true (len / 8) k t)))
     (λ t. eq-eqb (len / 8) k (omega (arith, eqb-true len (8 * k) t)))
+
+-- .. and as many contract numbers as four times as many
+pub fours : (k len : ℕ) → len % 4 ≡ 0 → eqb (len / 4) k ≡ eqb len (4 * k)
+fours k len h = same-tests (eqb (len / 4) k) (eqb len (4 * k))
+    (λ t. eq-eqb len (4 * k) (omega (arith, eqb-true (len / 4) k t)))
+    (λ t. eq-eqb (len / 4) k (omega (arith, eqb-true len (4 * k) t)))

@@ -1,6 +1,7 @@
 pub mod Numbers
 pub mod Doubles
 pub mod ByteLaws
+pub mod ContractNumbers
 pub mod Content
 pub mod Over
 pub mod WriteLaws

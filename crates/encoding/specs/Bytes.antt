@@ -25,6 +25,11 @@ unfoldable pub doubles : List ℕ → List Float
 unfolding table double
 doubles content = table (length content / 8) (λ k. double (take 8 (drop (8 * k) content)))
 
+-- content of four bytes for each contract number
+unfoldable pub numbers : List ℕ → List ℕ
+unfolding table lowFirst
+numbers content = table (length content / 4) (λ k. lowFirst (take 4 (drop (4 * k) content)))
+
 unfoldable pub doubleBytes : List Float → List ℕ
 unfolding bytes
 doubleBytes [] = []

@@ -1,11 +1,13 @@
-// The checks made on bytes, in the order of their refusals' numbers: eight bytes for each double.
+// The checks made on bytes, in the order of their refusals' numbers: eight bytes for each double, four for each contract number.
 ghost use mathlib.Core.Path.{_≡_};
-ghost use Prim.Native.Nat.{_*_};
+ghost use Prim.Native.Nat.{_*_, _/_, _<_};
+ghost use lib.ListN.{length};
 ghost use lib.Ieee.{binary64, ofBits};
 ghost use lib.Ieee.Scale.{finite};
-ghost use Rattle.matrix.specs.Checks.{check-buffer, check-indices, check-finite, firstNotFinite};
-ghost use Rattle.encoding.specs.Bytes.{doubles};
-ghost use Rattle.encoding.specs.Checks.{check-whole, check-entries};
+ghost use Rattle.matrix.specs.Checks.{check-buffer, check-indices, check-finite, check-distinct, firstNotFinite, firstSame};
+ghost use Rattle.encoding.specs.Bytes.{doubles, numbers};
+ghost use Rattle.encoding.specs.Checks.{check-whole, check-entries, check-number-bytes, number-byte-checks};
+use crate::read::read_contract_number;
 use crate::read::read_number;
 use crate::read::whole;
 use arithmetic::outcome::Outcome;
@@ -93,4 +95,52 @@ pub fn check_finite(n: usize, b: &[u8]) -> Outcome
         return checks::not_finite_at(n, k);
     }
     Outcome::Complete
+}
+
+// 12: n contract numbers.
+pub fn check_number_bytes(n: usize, len: usize) -> Outcome
+    ensures { λ r. ⌜ r ≡ check-number-bytes n len ⌝ }
+{
+    if len % 4 != 0 {
+        return Outcome::NumbersLength;
+    }
+    checks::check_numbers(n, len / 4)
+}
+
+// The first position before k with the number at k, or k.
+fn first_same(b: &[u8], k: usize) -> usize
+    requires { ⌜ k < length (now b) / 4 ⌝ }
+    ensures { λ r. ⌜ r ≡ firstSame (numbers (now (b .entry))) k ⌝ }
+{
+    let number = read_contract_number(b, 4 * k);
+    for i in 0..k {
+        if read_contract_number(b, 4 * i) == number {
+            return i;
+        }
+    }
+    k
+}
+
+// 13: by position among the numbers.
+pub fn check_distinct(b: &[u8]) -> Outcome
+    ensures { λ r. ⌜ r ≡ check-distinct (numbers (now (b .entry))) ⌝ }
+{
+    let count = b.len() / 4;
+    for k in 0..count {
+        if first_same(b, k) < k {
+            return Outcome::NumberRepeated { position: k };
+        }
+    }
+    Outcome::Complete
+}
+
+// 12, then 13. Numbers of a wrong length aren't read, however many there are.
+pub fn number_byte_checks(n: usize, b: &[u8]) -> Outcome
+    ensures { λ r. ⌜ r ≡ number-byte-checks n (now (b .entry)) ⌝ }
+{
+    let lengths = check_number_bytes(n, b.len());
+    if !lengths.complete() {
+        return lengths;
+    }
+    check_distinct(b)
 }

@@ -1,4 +1,4 @@
-// Doubles and indices as bytes, low byte first.
+// Doubles, indices and contract numbers as bytes, low byte first.
 pub mod checks;
 pub mod read;
 pub mod write;

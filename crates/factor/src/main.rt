@@ -20,7 +20,7 @@ fn say_field(before: &[u8], field: usize, after: &[u8]) {
     say(after);
 }
 
-// The tag that was due in a field.
+// The tag that was due in a field; in field 2 a 04 was due too.
 fn due(field: usize) -> u64 {
     if field == 0 {
         return 0x01;
@@ -29,6 +29,14 @@ fn due(field: usize) -> u64 {
         return 0x02;
     }
     0x03
+}
+
+fn say_due(field: usize) {
+    io::print_hex(STDERR_FILENO, due(field), 2);
+    if field == 2 {
+        say(b" or 04");
+    }
+    say(b" was due\n");
 }
 
 // The tag that stands where a walk stopped.
@@ -44,8 +52,7 @@ fn say_tags(field: usize, c: Cursor) {
     say_field(b"factor: field ", field, b" has tag ");
     io::print_hex(STDERR_FILENO, found(stage) as u64, 2);
     say(b", ");
-    io::print_hex(STDERR_FILENO, due(field), 2);
-    say(b" was due\n");
+    say_due(field);
 }
 
 // What is broken in a record's form: refusals 1, 10 and 11.
@@ -67,7 +74,7 @@ fn say_fault(input: &[u8], outcome: Outcome) {
 
 fn main() {
     // One byte more than the longest record, so that a longer input is noticed.
-    let mut input = [0; 18444];
+    let mut input = [0; 18639];
     let mut out = [0; LONGEST_ANSWER];
     let len = io::read_full(STDIN_FILENO, &mut input);
     let written = answer(&input[..len], &mut out);

@@ -294,6 +294,7 @@ fn step_at(
 }
 
 fn step(
+    numbers: &[u32],
     l: &mut [f64],
     c: &mut [f64],
     d: &mut [f64],
@@ -310,16 +311,17 @@ fn step(
     requires { ⌜ Square n (now c) ⌝ }
     requires { ⌜ (length (now d) ≡ n) × (length (now e) ≡ n) × (length (now p) ≡ n) × (length (now diag) ≡ n) ⌝ }
     requires { ⌜ j < n ⌝ }
-    ensures { λ q. ⌜ state (now (l .exit)) (now (c .exit)) (now (d .exit)) (now (e .exit)) (now (p .exit)) q ≡ step n delta beta j (state (now (l .entry)) (now (c .entry)) (now (d .entry)) (now (e .entry)) (now (p .entry)) r) ⌝ }
+    ensures { λ q. ⌜ state (now (l .exit)) (now (c .exit)) (now (d .exit)) (now (e .exit)) (now (p .exit)) q ≡ step (now (numbers .entry)) n delta beta j (state (now (l .entry)) (now (c .entry)) (now (d .entry)) (now (e .entry)) (now (p .entry)) r) ⌝ }
 {
     if r.stopped() {
         return r;
     }
-    let f = statements::search_diagonal(true, c, n, j, diag);
+    let f = statements::search_diagonal(numbers, p, true, c, n, j, diag);
     step_at(l, c, d, e, p, n, delta, beta, j, f.index, f.tied, r)
 }
 
 pub fn steps(
+    numbers: &[u32],
     l: &mut [f64],
     c: &mut [f64],
     d: &mut [f64],
@@ -334,11 +336,11 @@ pub fn steps(
     requires { ⌜ Square n (now l) ⌝ }
     requires { ⌜ Square n (now c) ⌝ }
     requires { ⌜ (length (now d) ≡ n) × (length (now e) ≡ n) × (length (now p) ≡ n) × (length (now diag) ≡ n) ⌝ }
-    ensures { λ q. ⌜ state (now (l .exit)) (now (c .exit)) (now (d .exit)) (now (e .exit)) (now (p .exit)) q ≡ range 0 n (step n delta beta) (state (now (l .entry)) (now (c .entry)) (now (d .entry)) (now (e .entry)) (now (p .entry)) r) ⌝ }
+    ensures { λ q. ⌜ state (now (l .exit)) (now (c .exit)) (now (d .exit)) (now (e .exit)) (now (p .exit)) q ≡ range 0 n (step (now (numbers .entry)) n delta beta) (state (now (l .entry)) (now (c .entry)) (now (d .entry)) (now (e .entry)) (now (p .entry)) r) ⌝ }
 {
     let mut q = r;
     for j in 0..n {
-        q = step(l, c, d, e, p, diag, n, delta, beta, j, q);
+        q = step(numbers, l, c, d, e, p, diag, n, delta, beta, j, q);
     }
     q
 }

@@ -12,10 +12,10 @@ use Rattle.matrix.specs.Eigenvalues.{eigenvaluesOf}
 use Rattle.matrix.specs.Calls.{search-checks, eigenvalues-2x2-call}
 use Rattle.circles.specs.Circles.{setEach, firstOverflow, circle-checks}
 use Rattle.methods.specs.Factor.{factor, tolerances}
-use Rattle.methods.specs.declared.method.Method.the-variants.{Se}
+use Rattle.methods.specs.declared.method.Method.the-variants.{Gmw81, Se}
 use Rattle.methods.specs.declared.decomposition.Mark.the-variants.{Step}
-use Rattle.methods.specs.declared.schnabel_eskow.Variant.the-variants.{Se99}
-use Rattle.hand.specs.Hand.{4·, minus, All, rows}
+use Rattle.methods.specs.declared.schnabel_eskow.Variant.the-variants.{Se90, Se99}
+use Rattle.hand.specs.Hand.{4·, minus, All, rows, OrdersOf}
 
 pub hand-calculations : All rows
 unfolding factor add sub mul div lt eq neg isNan ofBits firstFrom sqrt-call eigenvalues-2x2-call search-checks largest circle-checks setEach firstOverflow _then_ eigenvaluesOf
@@ -31,6 +31,19 @@ size-49 = refl
 pub size-0 : check-size 0 ≡ SizeOutOfRange
 size-0 = refl
 
-pub se99-enters : factor (Se Se99) tolerances 1 (minus 4· ∷ []) .decomposition .phase2 ≡ Step 0
+pub se99-enters : factor (Se Se99) tolerances [] 1 (minus 4· ∷ []) .decomposition .phase2 ≡ Step 0
 unfolding factor add sub mul div lt eq neg isNan ofBits
 se99-enters = refl
+
+-- ---- a tie after a swap, without numbers and with
+pub gmw81-orders : OrdersOf Gmw81
+unfolding factor add sub mul div lt eq neg isNan ofBits
+gmw81-orders = (refl, refl)
+
+pub se90-orders : OrdersOf (Se Se90)
+unfolding factor add sub mul div lt eq neg isNan ofBits
+se90-orders = (refl, refl)
+
+pub se99-orders : OrdersOf (Se Se99)
+unfolding factor add sub mul div lt eq neg isNan ofBits
+se99-orders = (refl, refl)

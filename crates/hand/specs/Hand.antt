@@ -1,4 +1,5 @@
--- Document 01's section 'Hand calculations': the fourteen as rows of one table. proofs/Rows.antt: `hand-calculations`, one fact over all rows.
+-- Document 01's section 'Hand calculations': the fourteen as rows of one table, all without contract numbers. proofs/Rows.antt:
+-- `hand-calculations`, one fact over all rows.
 use mathlib.Core.Path.{_≡_}
 use mathlib.Core.Bool.{true, false}
 use mathlib.Core.List.{List, [], _∷_}
@@ -76,7 +77,7 @@ pub data Row : Type 0 where
 -- what a row states, of the definitions themselves
 abbrev pub Holds : Row → Type 0
 Holds (factorization method n a outcome tied phase2 l e p) =
-    factor method tolerances n a ≡ record { decomposition = record { outcome = outcome; tied = tied; phase2 = phase2 }; l = l; e = e; p = p }
+    factor method tolerances [] n a ≡ record { decomposition = record { outcome = outcome; tied = tied; phase2 = phase2 }; l = l; e = e; p = p }
 Holds (eigenvalues mat hi lo) = eigenvalues-2x2-call mat ≡ record { outcome = Complete; eigen = record { hi = hi; lo = lo } }
 Holds (circles n mat centres radii) = gershgorin-circles-call n mat (zeros n) (zeros n) ≡ circlesCall Complete centres radii
 Holds (searches c index by-magnitude) =
@@ -104,3 +105,14 @@ rows =
     ∷ searches (3· ∷ minus 5· ∷ 3· ∷ []) 0 1
     ∷ root 2^-1074 2^-537
     ∷ []
+
+-- ---- a tie by contract number
+
+-- after the swap at step 0 the first position of the tied two holds contract 1, and the smaller number is contract 0's
+abbrev pub tiedAfterSwap : List Float
+tiedAfterSwap = 1· ∷ 0· ∷ 0· ∷ 0· ∷ 1· ∷ 0· ∷ 0· ∷ 0· ∷ 3· ∷ []
+
+-- p without numbers, and with each contract's position as its number
+abbrev pub OrdersOf : Method → Type 0
+OrdersOf method =
+    (factor method tolerances [] 3 tiedAfterSwap .p ≡ 2 ∷ 1 ∷ 0 ∷ []) × (factor method tolerances (0 ∷ 1 ∷ 2 ∷ []) 3 tiedAfterSwap .p ≡ 2 ∷ 0 ∷ 1 ∷ [])

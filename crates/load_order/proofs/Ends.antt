@@ -38,14 +38,21 @@ pub record BothAlike (n : ℕ) (s : List ℕ) (A B : End) : Type 0 where
   pub same : A .progress ≡ B .progress
   pub completed : A .progress .refused ≡ Never → Completed n s A B
 
-pub data Ended (n : ℕ) (s : List ℕ) (A B : End) : Type 0 where
-  both-tied : (t : ℕ) → A .progress .tied ≡ Step t → B .progress .tied ≡ Step t → Ended n s A B
-  both-left : (t : ℕ) → A .progress .tied ≡ B .progress .tied → A .progress .phase2 ≡ Step t → B .progress .phase2 ≡ Step t → Ended n s A B
-  both-alike : BothAlike n s A B → Ended n s A B
+-- May: whether ties may part the runs
+pub data Ended (May : Type 0) (n : ℕ) (s : List ℕ) (A B : End) : Type 0 where
+  both-tied : May → (t : ℕ) → A .progress .tied ≡ Step t → B .progress .tied ≡ Step t → Ended May n s A B
+  both-left : (t : ℕ) → A .progress .tied ≡ B .progress .tied → A .progress .phase2 ≡ Step t → B .progress .phase2 ≡ Step t → Ended May n s A B
+  both-alike : BothAlike n s A B → Ended May n s A B
 
 -- ---- what is handed back
 pub refused-not-complete : (t : ℕ) → StoredNotFinite t ≡ Complete → ⊥
 refused-not-complete t e = let z : _≡_ {A = ℕ} 0 1 = cc in omega arith
+
+-- what is alike where no tie parts the runs
+pub record Joined (n : ℕ) (s : List ℕ) (first second : Result) : Type 0 where
+  pub tied : first .decomposition .tied ≡ second .decomposition .tied
+  pub phase2 : first .decomposition .phase2 ≡ second .decomposition .phase2
+  pub throughout : first .decomposition .phase2 ≡ Never → AlikeThroughout n s first second
 
 module _ (n : ℕ) (s : List ℕ) (A B : End) (L : LoadOrder n s) where
   throughout : (m : Mark) → A .progress .refused ≡ m → B .progress .refused ≡ m → (A .progress .refused ≡ Never → Completed n s A B) → AlikeThroughout n s (handed n A) (handed n B)
@@ -57,14 +64,24 @@ module _ (n : ℕ) (s : List ℕ) (A B : End) (L : LoadOrder n s) where
     pivots = λ e. absurd (refused-not-complete t e);
   })
 
-  pub ended-alike : Ended n s A B → Alike n s (handed n A) (handed n B)
-  ended-alike (both-tied t p q) = record { tied = p ∙ sym q; phase2 = λ h. clash (A .progress .tied) t h p; throughout = λ h. clash (A .progress .tied) t h p }
-  ended-alike (both-left t e p q) = record { tied = e; phase2 = λ h. p ∙ sym q; throughout = λ h k. clash (A .progress .phase2) t k p }
-  ended-alike (both-alike C) = record {
+  -- no tie parts the runs
+  pub ended-joined : Ended ⊥ n s A B → Joined n s (handed n A) (handed n B)
+  ended-joined (both-tied m t p q) = absurd m
+  ended-joined (both-left t e p q) = record { tied = e; phase2 = p ∙ sym q; throughout = λ k. clash (A .progress .phase2) t k p }
+  ended-joined (both-alike C) = record {
     tied = ap (λ (r : Progress). r .tied) (C .same);
-    phase2 = λ h. ap (λ (r : Progress). r .phase2) (C .same);
-    throughout = λ h k. throughout (A .progress .refused) refl (sym (ap (λ (r : Progress). r .refused) (C .same))) (C .completed);
+    phase2 = ap (λ (r : Progress). r .phase2) (C .same);
+    throughout = λ k. throughout (A .progress .refused) refl (sym (ap (λ (r : Progress). r .refused) (C .same))) (C .completed);
   }
+
+  untied : Joined n s (handed n A) (handed n B) → Alike n s (handed n A) (handed n B)
+  untied J = record { tied = J .tied; phase2 = λ h. J .phase2; throughout = λ h. J .throughout }
+
+  -- ties may part them
+  pub ended-alike : Ended Unit n s A B → Alike n s (handed n A) (handed n B)
+  ended-alike (both-tied m t p q) = record { tied = p ∙ sym q; phase2 = λ h. clash (A .progress .tied) t h p; throughout = λ h. clash (A .progress .tied) t h p }
+  ended-alike (both-left t e p q) = untied (ended-joined (both-left t e p q))
+  ended-alike (both-alike C) = untied (ended-joined (both-alike C))
 
 -- ---- from the end of the steps to the end of the run
 -- what the end of a run keeps of its progress
@@ -75,11 +92,11 @@ pub record ProgressKept (r : Progress) (end : End) : Type 0 where
 
 module _ {Run : Type 0} (M : Steps Run) (n : ℕ) (s : List ℕ) (Values : (ℕ → ℕ) → ℕ → Run → Run → Type 0) (May : Type 0) (A B : Run) (A' B' : End)
     (F : ProgressKept (M .progress A) A') (G : ProgressKept (M .progress B) B') (complete : InStep M n (order s) Values n A B → M .progress A ≡ M .progress B → Going (M .progress A) → BothAlike n s A' B') where
-  pub runs-end : Runs M n (order s) Values May n A B → Ended n s A' B'
-  runs-end (apart m t p q) = both-tied t (F .tied ∙ p) (G .tied ∙ q)
+  pub runs-end : Runs M n (order s) Values May n A B → Ended May n s A' B'
+  runs-end (apart m t p q) = both-tied m t (F .tied ∙ p) (G .tied ∙ q)
   runs-end (together T) = go (M .progress A .phase2) refl (M .progress A .refused) refl
     where
-      go : (m : Mark) → M .progress A .phase2 ≡ m → (q : Mark) → M .progress A .refused ≡ q → Ended n s A' B'
+      go : (m : Mark) → M .progress A .phase2 ≡ m → (q : Mark) → M .progress A .refused ≡ q → Ended May n s A' B'
       go (Step t) p q e = both-left t
           (F .tied ∙ ap (λ (r : Progress). r .tied) (T .same) ∙ sym (G .tied))
           (F .phase2 ∙ p) (G .phase2 ∙ sym (ap (λ (r : Progress). r .phase2) (T .same)) ∙ p)

@@ -1,6 +1,6 @@
 -- Two runs of GMW81: its steps keep them in step, and how they end.
 use mathlib.Core.Path.{_≡_, refl, sym, ap, ap₂, _∙_, subst}
-use mathlib.Core.List.{List}
+use mathlib.Core.List.{List, []}
 use mathlib.Core.Bool.{Bool, true, false, _&&_, false≢true}
 use Prim.Native.Nat.{ℕ, suc, _+_, _≤_, _<_}
 use native.Mathlib.Omega.{arith}
@@ -32,11 +32,11 @@ use Rattle.methods.proofs.Refused.{goes-on}
 use Rattle.methods.proofs.Stopped.{Going}
 use Rattle.methods.proofs.Loaded.{Loaded, all-double, gamma-same}
 use Rattle.methods.proofs.LoadOrders.{order}
-use Rattle.methods.proofs.GmwLaws.{finish-stays, finish-goes, finish-order}
-use Rattle.methods.proofs.GmwRuns.{l₂Of, c₃Of, stepD, stepE, stepTest}
+use Rattle.methods.proofs.GmwLaws.{started-is, step-at-is, finish-stays, finish-goes, finish-order}
+use Rattle.methods.proofs.GmwRuns.{steps-keep, run-is, l₂Of, c₃Of, stepD, stepE, stepTest}
 use Rattle.methods.proofs.GmwSteps.{column-at, diagonal-other, row-moved, row-fixed, column-moved, diagonal-moved, theta-moved, start-at, start-moved}
 use Rattle.load_order.proofs.Positions.{Pivoted, loaded-positions, same-pivots, same-amounts}
-use Rattle.load_order.proofs.Picks.{diagonal-picks, diagonal-picks-first}
+use Rattle.load_order.proofs.Picks.{Searches, without-numbers, diagonal-picks-first}
 use Rattle.load_order.proofs.Lockstep.{Steps, InStep, Together, Runs, Laws, runs}
 use Rattle.load_order.proofs.OwnSteps.{OrderLaws, Own, own}
 use Rattle.load_order.proofs.Ends.{End, Ended, BothAlike, ProgressKept, runs-end, together-end}
@@ -48,7 +48,7 @@ steps n delta beta = record {
   order = λ r. r .p;
   leaves = λ j r. false;
   leave = λ j r. r;
-  search-from = λ j r. pick true (diagonal n (r .c)) j;
+  search-from = λ numbers j r. pick numbers (r .p) true (diagonal n (r .c)) j;
   stepAt = stepAt n delta beta;
 }
 
@@ -182,13 +182,13 @@ module _ (n : ℕ) (delta beta : Float) (s : ℕ → ℕ) (j a b : ℕ) (tie : B
 
 -- ---- whole runs
 module _ (n : ℕ) (delta beta : Float) (s : ℕ → ℕ) where
-  laws : Laws (steps n delta beta) n s (Values n) Unit
+  laws : (May : Type 0) (first second : List ℕ) → Searches May true n s first second → Laws (steps n delta beta) n s (Values n) May first second
   unfolding stepAt
-  laws = record {
+  laws May first second S = record {
     leaves-alike = λ j A B pj L. refl;
     leave-alike = λ j A B h. absurd (false≢true h);
     leave-tied = λ j r. refl;
-    picks = λ j A B pj L. diagonal-picks true n j (L .positions) (A .c) (B .c) pj (L .values .moved-c) (λ i p q. finite-number (at n (A .c) i i) (L .values .finite-c i p q));
+    picks = λ j A B pj L. S .picks j (A .p) (B .p) (L .positions) (A .c) (B .c) pj (L .values .moved-c) (λ i p q. finite-number (at n (A .c) i i) (L .values .finite-c i p q));
     step-alike = step-alike n delta beta s;
     step-tied = λ j k tie r. refl;
   }
@@ -205,9 +205,10 @@ module _ (n : ℕ) (delta beta : Float) (s : ℕ → ℕ) where
         };
       }
 
-  steps-runs : (s' : ℕ → ℕ) (A B : List Float) → Loaded n s s' A B → Runs (steps n delta beta) n s (Values n) Unit n (range 0 n (step n delta beta) (start n A)) (range 0 n (step n delta beta) (start n B))
+  steps-runs : (May : Type 0) (first second : List ℕ) → Searches May true n s first second → (s' : ℕ → ℕ) (A B : List Float) → Loaded n s s' A B
+      → Runs (steps n delta beta) n s (Values n) May n (range 0 n (step first n delta beta) (start n A)) (range 0 n (step second n delta beta) (start n B))
   unfolding step
-  steps-runs s' A B D = runs (steps n delta beta) n s (Values n) Unit laws (start n A) (start n B) (starts s' A B D)
+  steps-runs May first second S s' A B D = runs (steps n delta beta) n s (Values n) May first second (laws May first second S) (start n A) (start n B) (starts s' A B D)
 
   order-laws : OrderLaws (steps n delta beta) n s (Values n)
   unfolding stepAt
@@ -221,10 +222,10 @@ module _ (n : ℕ) (delta beta : Float) (s : ℕ → ℕ) where
   unfolding start
   start-order a = refl
 
-  steps-own : (s' : ℕ → ℕ) (A B : List Float) → Loaded n s s' A B → ((t : ℕ) → t < n → s t ≡ getD (range 0 n (step n delta beta) (start n A) .p) t 0)
-      → Own (steps n delta beta) n s (Values n) n (range 0 n (step n delta beta) (start n A)) (range 0 n (step n delta beta) (start n B))
+  steps-own : (s' : ℕ → ℕ) (A B : List Float) → Loaded n s s' A B → ((t : ℕ) → t < n → s t ≡ getD (range 0 n (step [] n delta beta) (start n A) .p) t 0)
+      → Own (steps n delta beta) n s (Values n) n (range 0 n (step [] n delta beta) (start n A)) (range 0 n (step [] n delta beta) (start n B))
   unfolding step
-  steps-own s' A B D h = own (steps n delta beta) n s (Values n) laws order-laws (start n A) (start n B) (record { together = starts s' A B D; unmoved = start-order B }) h
+  steps-own s' A B D h = own (steps n delta beta) n s (Values n) (laws Unit [] [] (without-numbers true n s)) order-laws (start n A) (start n B) (record { together = starts s' A B D; unmoved = start-order B }) h
 
 -- ---- the scaled factor and the end
 abbrev pub endOf : Run → End
@@ -236,6 +237,11 @@ finished n r = go (is (marked (r .progress .refused)))
     go : Is (marked (r .progress .refused)) → ProgressKept (r .progress) (endOf (finish n r))
     go (holds h) = rw (finish-stays n r h) (record { tied = refl; phase2 = refl; refused = λ t e p. refl })
     go (fails h) = rw (finish-goes n r h) (record { tied = refl; phase2 = refl; refused = λ t e p. absurd (false≢true (sym h ∙ ap marked e)) })
+
+-- there is one phase
+pub one-phase : (numbers : List ℕ) (n : ℕ) (a : List Float) → run numbers n a .progress .phase2 ≡ Never
+one-phase numbers n a = rw run-is (finished n (stepped numbers n a) .phase2
+    ∙ steps-keep numbers n _ _ (λ j r. r .progress .phase2 ≡ Never) (record { by-step = λ j k tie r h w e. rw step-at-is e; refused = λ j r h e. e }) a (rw started-is refl))
 
 module _ (n : ℕ) (delta beta : Float) (s : List ℕ) (A B : Run) where
   complete : InStep (steps n delta beta) n (order s) (Values n) n A B → A .progress ≡ B .progress → Going (A .progress) → BothAlike n s (endOf (finish n A)) (endOf (finish n B))
@@ -259,22 +265,22 @@ module _ (n : ℕ) (s s' : ℕ → ℕ) (A B : List Float) (D : Loaded n s s' A 
   abbrev beta : Float
   beta = betaOf n (diagonalMax n A) (offDiagonalMax n A)
 
-  second-run : finish n (range 0 n (step n delta beta) (start n B)) ≡ run n B
+  second-run : (numbers : List ℕ) → finish n (range 0 n (step numbers n delta beta) (start n B)) ≡ run numbers n B
   unfolding run
-  second-run = ap₂ (λ (v w : Float). finish n (range 0 n (step n (deltaOf v w) (betaOf n v w)) (start n B))) (gamma-same D) (offDiagonalMax-along n s s' A B (D .bijection) (D .moved .moved) (all-double D))
+  second-run numbers = ap₂ (λ (v w : Float). finish n (range 0 n (step numbers n (deltaOf v w) (betaOf n v w)) (start n B))) (gamma-same D) (offDiagonalMax-along n s s' A B (D .bijection) (D .moved .moved) (all-double D))
 
 module _ (n : ℕ) (s : List ℕ) (s' : ℕ → ℕ) (A B : List Float) (D : Loaded n (order s) s' A B) where
   abbrev M : Steps Run
   M = steps n (delta n (order s) s' A B D) (beta n (order s) s' A B D)
 
-  pub gmw81-ended : Ended n s (endOf (run n A)) (endOf (run n B))
+  pub gmw81-ended : (May : Type 0) (first second : List ℕ) → Searches May true n (order s) first second → Ended May n s (endOf (run first n A)) (endOf (run second n B))
   unfolding run
-  gmw81-ended = subst (λ (r : Run). Ended n s (endOf (run n A)) (endOf r)) (second-run n (order s) s' A B D)
-      (runs-end M n s (Values n) Unit _ _ _ _ (finished n _) (finished n _) (complete n _ _ s _ _) (steps-runs n _ _ (order s) s' A B D))
+  gmw81-ended May first second S = subst (λ (r : Run). Ended May n s (endOf (run first n A)) (endOf r)) (second-run n (order s) s' A B D second)
+      (runs-end M n s (Values n) May _ _ _ _ (finished n _) (finished n _) (complete n _ _ s _ _) (steps-runs n _ _ (order s) May first second S s' A B D))
 
-  -- s is the first run's order
-  pub gmw81-own : run n A .p ≡ s → run n A .progress .phase2 ≡ Never → run n A .progress .refused ≡ Never → BothAlike n s (endOf (run n A)) (endOf (run n B))
+  -- s is the first run's order, and there are no numbers
+  pub gmw81-own : run [] n A .p ≡ s → run [] n A .progress .phase2 ≡ Never → run [] n A .progress .refused ≡ Never → BothAlike n s (endOf (run [] n A)) (endOf (run [] n B))
   unfolding run
-  gmw81-own e p q = subst (λ (r : Run). BothAlike n s (endOf (run n A)) (endOf r)) (second-run n (order s) s' A B D)
+  gmw81-own e p q = subst (λ (r : Run). BothAlike n s (endOf (run [] n A)) (endOf r)) (second-run n (order s) s' A B D [])
       (together-end M n s (Values n) Unit _ _ _ _ (finished n _) (finished n _) (complete n _ _ s _ _)
-      (steps-own n _ _ (order s) s' A B D (λ t h. ap (λ (x : List ℕ). getD x t 0) (sym e ∙ finish-order n (stepped n A))) .together) p q)
+      (steps-own n _ _ (order s) s' A B D (λ t h. ap (λ (x : List ℕ). getD x t 0) (sym e ∙ finish-order n (stepped [] n A))) .together) p q)

@@ -1,4 +1,6 @@
 pub mod Positions
+pub mod Smallest
+pub mod TieRule
 pub mod Picks
 pub mod Lockstep
 pub mod OwnSteps
@@ -6,5 +8,6 @@ pub mod Ends
 pub mod Gmw81
 pub mod Se
 pub mod Theorem
+pub mod Numbered
 pub mod Calls
 pub mod OwnOrder

@@ -25,15 +25,16 @@ pub record Steps (Run : Type 0) : Type 0 where
   -- the test before the search, and what becomes of a run that it ends
   pub leaves : ℕ → Run → Bool
   pub leave : ℕ → Run → Run
-  pub search-from : ℕ → Run → Found
+  -- its contracts have these numbers, none where the list is empty
+  pub search-from : List ℕ → ℕ → Run → Found
   -- the step with its pivot, and whether its search was tied
   pub stepAt : ℕ → ℕ → Bool → Run → Run
 
-abbrev pub next : {Run : Type 0} → Steps Run → ℕ → Run → Run
-next M j r = cond (M .leaves j r) (M .leave j r) (M .stepAt j (M .search-from j r .index) (M .search-from j r .tied) r)
+abbrev pub next : {Run : Type 0} → Steps Run → List ℕ → ℕ → Run → Run
+next M numbers j r = cond (M .leaves j r) (M .leave j r) (M .stepAt j (M .search-from numbers j r .index) (M .search-from numbers j r .tied) r)
 
-abbrev pub step : {Run : Type 0} → Steps Run → ℕ → Run → Run
-step M j r = unlessStopped (M .progress) (next M j) r
+abbrev pub step : {Run : Type 0} → Steps Run → List ℕ → ℕ → Run → Run
+step M numbers j r = unlessStopped (M .progress) (next M numbers j) r
 
 -- the step before which a run stands after j steps: where it left phase one, or j
 abbrev pub reached : ℕ → Mark → ℕ
@@ -71,64 +72,66 @@ module _ {Run : Type 0} (M : Steps Run) (n : ℕ) (s : ℕ → ℕ) (Values : (�
       together : Together j A B → Runs j A B
       apart : May → (t : ℕ) → M .progress A .tied ≡ Step t → M .progress B .tied ≡ Step t → Runs j A B
 
-    -- what a method has to show
-    pub record Laws : Type 0 where
-      pub leaves-alike : (j : ℕ) (A B : Run) → j < n → InStep j A B → M .leaves j A ≡ M .leaves j B
-      pub leave-alike : (j : ℕ) (A B : Run) → M .leaves j A ≡ true → InStep j A B → M .progress A ≡ M .progress B → Going (M .progress A) → Together (suc j) (M .leave j A) (M .leave j B)
-      pub leave-tied : (j : ℕ) (r : Run) → M .progress (M .leave j r) .tied ≡ M .progress r .tied
-      pub picks : (j : ℕ) (A B : Run) → j < n → (L : InStep j A B) → Picks May n (L .positions .σ) j (M .search-from j A) (M .search-from j B)
-      pub step-alike : (j a b : ℕ) (tie : Bool) (A B : Run) (L : InStep j A B) → Pivoted n s j (M .order A) (M .order B) (L .positions) a b → M .progress A ≡ M .progress B → Going (M .progress A)
-          → Together (suc j) (M .stepAt j a tie A) (M .stepAt j b tie B)
-      pub step-tied : (j k : ℕ) (tie : Bool) (r : Run) → M .progress (M .stepAt j k tie r) .tied ≡ mark (M .progress r .tied) tie j
+    -- the contracts' numbers in the first run and in the second
+    module _ (first second : List ℕ) where
+      -- what a method has to show
+      pub record Laws : Type 0 where
+        pub leaves-alike : (j : ℕ) (A B : Run) → j < n → InStep j A B → M .leaves j A ≡ M .leaves j B
+        pub leave-alike : (j : ℕ) (A B : Run) → M .leaves j A ≡ true → InStep j A B → M .progress A ≡ M .progress B → Going (M .progress A) → Together (suc j) (M .leave j A) (M .leave j B)
+        pub leave-tied : (j : ℕ) (r : Run) → M .progress (M .leave j r) .tied ≡ M .progress r .tied
+        pub picks : (j : ℕ) (A B : Run) → j < n → (L : InStep j A B) → Picks May n (L .positions .σ) j (M .search-from first j A) (M .search-from second j B)
+        pub step-alike : (j a b : ℕ) (tie : Bool) (A B : Run) (L : InStep j A B) → Pivoted n s j (M .order A) (M .order B) (L .positions) a b → M .progress A ≡ M .progress B → Going (M .progress A)
+            → Together (suc j) (M .stepAt j a tie A) (M .stepAt j b tie B)
+        pub step-tied : (j k : ℕ) (tie : Bool) (r : Run) → M .progress (M .stepAt j k tie r) .tied ≡ mark (M .progress r .tied) tie j
 
-    module _ (K : Laws) where
-      -- the first tie stays
-      next-keeps : (j t : ℕ) (r : Run) → M .progress r .tied ≡ Step t → M .progress (next M j r) .tied ≡ Step t
-      next-keeps j t r e = go (is (M .leaves j r))
-        where
-          go : Is (M .leaves j r) → M .progress (next M j r) .tied ≡ Step t
-          go (holds h) = rw h (K .leave-tied j r ∙ e)
-          go (fails h) = rw h (K .step-tied j _ _ r ∙ mark-keeps (M .progress r .tied) _ j t e)
-
-      step-keeps : (j t : ℕ) (r : Run) → M .progress r .tied ≡ Step t → M .progress (step M j r) .tied ≡ Step t
-      step-keeps j t r e = go (is (stopped (M .progress r)))
-        where
-          go : Is (stopped (M .progress r)) → M .progress (step M j r) .tied ≡ Step t
-          go (holds h) = rw h e
-          go (fails h) = rw h (next-keeps j t r e)
-
-      -- two runs that go on
-      module _ (j : ℕ) (A B : Run) (pj : j < n) (L : InStep j A B) (same : M .progress A ≡ M .progress B) (G : Going (M .progress A)) where
-        searched : Picks May n (L .positions .σ) j (M .search-from j A) (M .search-from j B)
-            → Runs (suc j) (M .stepAt j (M .search-from j A .index) (M .search-from j A .tied) A) (M .stepAt j (M .search-from j B .index) (M .search-from j B .tied) B)
-        searched (correspond e W) =
-            together (subst (λ (b : Bool). Together (suc j) (M .stepAt j (M .search-from j A .index) (M .search-from j A .tied) A) (M .stepAt j (M .search-from j B .index) b B)) e
-            (K .step-alike j (M .search-from j A .index) (M .search-from j B .index) (M .search-from j A .tied) A B L (pivoted n s j (M .order A) (M .order B) (L .positions) _ _ W) same G))
-        searched (tied m e f) =
-            let r = mark-some (M .progress A .tied) j in
-            apart m (r .0)
-            (K .step-tied j _ _ A ∙ ap (λ (b : Bool). mark (M .progress A .tied) b j) e ∙ r .1)
-            (K .step-tied j _ _ B ∙ ap₂ (λ (q : Progress) (b : Bool). mark (q .tied) b j) (sym same) f ∙ r .1)
-
-        next-runs : Runs (suc j) (next M j A) (next M j B)
-        next-runs = go (is (M .leaves j A))
+      module _ (K : Laws) where
+        -- the first tie stays
+        next-keeps : (numbers : List ℕ) (j t : ℕ) (r : Run) → M .progress r .tied ≡ Step t → M .progress (next M numbers j r) .tied ≡ Step t
+        next-keeps numbers j t r e = go (is (M .leaves j r))
           where
-            go : Is (M .leaves j A) → Runs (suc j) (next M j A) (next M j B)
-            go (holds h) = rw (h, sym (K .leaves-alike j A B pj L) ∙ h) (together (K .leave-alike j A B h L same G))
-            go (fails h) = rw (h, sym (K .leaves-alike j A B pj L) ∙ h) (searched (K .picks j A B pj L))
+            go : Is (M .leaves j r) → M .progress (next M numbers j r) .tied ≡ Step t
+            go (holds h) = rw h (K .leave-tied j r ∙ e)
+            go (fails h) = rw h (K .step-tied j _ _ r ∙ mark-keeps (M .progress r .tied) _ j t e)
 
-      step-runs : (j : ℕ) (A B : Run) → j < n → Runs j A B → Runs (suc j) (step M j A) (step M j B)
-      step-runs j A B pj (apart m t p q) = apart m t (step-keeps j t A p) (step-keeps j t B q)
-      step-runs j A B pj (together T) = go (is (stopped (M .progress A)))
-        where
-          second : stopped (M .progress B) ≡ stopped (M .progress A)
-          second = ap stopped (sym (T .same))
+        step-keeps : (numbers : List ℕ) (j t : ℕ) (r : Run) → M .progress r .tied ≡ Step t → M .progress (step M numbers j r) .tied ≡ Step t
+        step-keeps numbers j t r e = go (is (stopped (M .progress r)))
+          where
+            go : Is (stopped (M .progress r)) → M .progress (step M numbers j r) .tied ≡ Step t
+            go (holds h) = rw h e
+            go (fails h) = rw h (next-keeps numbers j t r e)
 
-          go : Is (stopped (M .progress A)) → Runs (suc j) (step M j A) (step M j B)
-          go (holds h) = rw (stays (M .progress) (next M j) A h, stays (M .progress) (next M j) B (second ∙ h)) (together (stopped-together j A B h T))
-          go (fails h) =
-              let G = going (M .progress A) h in
-              rw (goes (M .progress) (next M j) A h, goes (M .progress) (next M j) B (second ∙ h)) (next-runs j A B pj (going-together j A B G T) (T .same) G)
+        -- two runs that go on
+        module _ (j : ℕ) (A B : Run) (pj : j < n) (L : InStep j A B) (same : M .progress A ≡ M .progress B) (G : Going (M .progress A)) where
+          searched : Picks May n (L .positions .σ) j (M .search-from first j A) (M .search-from second j B)
+              → Runs (suc j) (M .stepAt j (M .search-from first j A .index) (M .search-from first j A .tied) A) (M .stepAt j (M .search-from second j B .index) (M .search-from second j B .tied) B)
+          searched (correspond e W) =
+              together (subst (λ (b : Bool). Together (suc j) (M .stepAt j (M .search-from first j A .index) (M .search-from first j A .tied) A) (M .stepAt j (M .search-from second j B .index) b B)) e
+              (K .step-alike j (M .search-from first j A .index) (M .search-from second j B .index) (M .search-from first j A .tied) A B L (pivoted n s j (M .order A) (M .order B) (L .positions) _ _ W) same G))
+          searched (tied m e f) =
+              let r = mark-some (M .progress A .tied) j in
+              apart m (r .0)
+              (K .step-tied j _ _ A ∙ ap (λ (b : Bool). mark (M .progress A .tied) b j) e ∙ r .1)
+              (K .step-tied j _ _ B ∙ ap₂ (λ (q : Progress) (b : Bool). mark (q .tied) b j) (sym same) f ∙ r .1)
 
-      pub runs : (A B : Run) → Together 0 A B → Runs n (range 0 n (step M) A) (range 0 n (step M) B)
-      runs A B T = range2-ind Runs 0 n (step M) (step M) A B (omega arith) (together T) (λ j p q r t. step-runs j r t q)
+          next-runs : Runs (suc j) (next M first j A) (next M second j B)
+          next-runs = go (is (M .leaves j A))
+            where
+              go : Is (M .leaves j A) → Runs (suc j) (next M first j A) (next M second j B)
+              go (holds h) = rw (h, sym (K .leaves-alike j A B pj L) ∙ h) (together (K .leave-alike j A B h L same G))
+              go (fails h) = rw (h, sym (K .leaves-alike j A B pj L) ∙ h) (searched (K .picks j A B pj L))
+
+        step-runs : (j : ℕ) (A B : Run) → j < n → Runs j A B → Runs (suc j) (step M first j A) (step M second j B)
+        step-runs j A B pj (apart m t p q) = apart m t (step-keeps first j t A p) (step-keeps second j t B q)
+        step-runs j A B pj (together T) = go (is (stopped (M .progress A)))
+          where
+            same : stopped (M .progress B) ≡ stopped (M .progress A)
+            same = ap stopped (sym (T .same))
+
+            go : Is (stopped (M .progress A)) → Runs (suc j) (step M first j A) (step M second j B)
+            go (holds h) = rw (stays (M .progress) (next M first j) A h, stays (M .progress) (next M second j) B (same ∙ h)) (together (stopped-together j A B h T))
+            go (fails h) =
+                let G = going (M .progress A) h in
+                rw (goes (M .progress) (next M first j) A h, goes (M .progress) (next M second j) B (same ∙ h)) (next-runs j A B pj (going-together j A B G T) (T .same) G)
+
+        pub runs : (A B : Run) → Together 0 A B → Runs n (range 0 n (step M first) A) (range 0 n (step M second) B)
+        runs A B T = range2-ind Runs 0 n (step M first) (step M second) A B (omega arith) (together T) (λ j p q r t. step-runs j r t q)

@@ -1,6 +1,6 @@
 -- The theorem on a run's own order.
 use mathlib.Core.Path.{_≡_, refl, sym, ap, _∙_, subst}
-use mathlib.Core.List.{List}
+use mathlib.Core.List.{List, []}
 use Prim.Native.Nat.{ℕ, _<_}
 use native.Mathlib.Omega.{arith}
 use lib.ListN.{getD}
@@ -56,16 +56,16 @@ handed-own n A B P Q e C =
 pub own-order : OwnOrderTheorem
 unfolding factor mod-cholesky-gmw81 mod-cholesky-se
 own-order Gmw81 t n a A c u =
-    let r = gmw.run n a in
-    let P = gmw-runs.run-permuted n a in
+    let r = gmw.run [] n a in
+    let P = gmw-runs.run-permuted [] n a in
     let e = complete-never (r .progress .refused) c in
-    subst (λ (p : List ℕ). OwnOrder n (handed n (gmw-end.endOf r)) (handed n (gmw-end.endOf (gmw.run n (reload n p a))))) (sym (filled-never (r .progress .refused) n (r .p) e))
-    (handed-own n (gmw-end.endOf r) (gmw-end.endOf (gmw.run n (reload n (r .p) a))) P (gmw-runs.run-permuted n (reload n (r .p) a)) e
+    subst (λ (p : List ℕ). OwnOrder n (handed n (gmw-end.endOf r)) (handed n (gmw-end.endOf (gmw.run [] n (reload n p a))))) (sym (filled-never (r .progress .refused) n (r .p) e))
+    (handed-own n (gmw-end.endOf r) (gmw-end.endOf (gmw.run [] n (reload n (r .p) a))) P (gmw-runs.run-permuted [] n (reload n (r .p) a)) e
     (gmw-end.gmw81-own n (r .p) (position n (r .p)) a (reload n (r .p) a) (loaded n a (r .p) A (permuted-order n (r .p) P)) refl u e))
 own-order (Se v) t n a A c u =
-    let r = ses.run v t n a in
-    let P = se-runs.run-permuted v t n a in
+    let r = ses.run v t [] n a in
+    let P = se-runs.run-permuted v t [] n a in
     let e = complete-never (r .progress .refused) c in
-    subst (λ (p : List ℕ). OwnOrder n (handed n (se-end.endOf n r)) (handed n (se-end.endOf n (ses.run v t n (reload n p a))))) (sym (filled-never (r .progress .refused) n (r .p) e))
-    (handed-own n (se-end.endOf n r) (se-end.endOf n (ses.run v t n (reload n (r .p) a))) P (se-runs.run-permuted v t n (reload n (r .p) a)) e
+    subst (λ (p : List ℕ). OwnOrder n (handed n (se-end.endOf n r)) (handed n (se-end.endOf n (ses.run v t [] n (reload n p a))))) (sym (filled-never (r .progress .refused) n (r .p) e))
+    (handed-own n (se-end.endOf n r) (se-end.endOf n (ses.run v t [] n (reload n (r .p) a))) P (se-runs.run-permuted v t [] n (reload n (r .p) a)) e
     (se-end.se-own v t n (r .p) (position n (r .p)) a (reload n (r .p) a) (loaded n a (r .p) A (permuted-order n (r .p) P)) refl u e))

@@ -1,6 +1,6 @@
--- Two runs in step, the second on the matrix reloaded by the first one's pivots: the second makes no swap, tied or not.
+-- Two runs in step, without numbers, the second on the matrix reloaded by the first one's pivots: the second makes no swap, tied or not.
 use mathlib.Core.Path.{_≡_, refl, sym, ap, _∙_, subst}
-use mathlib.Core.List.{List}
+use mathlib.Core.List.{List, []}
 use mathlib.Core.Bool.{Bool}
 use Prim.Native.Nat.{ℕ, suc, _+_, _<_}
 use native.Mathlib.Decide.{ℕ-discrete}
@@ -40,7 +40,7 @@ module _ {Run : Type 0} (M : Steps Run) (n : ℕ) (s : ℕ → ℕ) (Values : (�
   pub record OrderLaws : Type 0 where
     pub leave-order : (j : ℕ) (r : Run) → M .order (M .leave j r) ≡ M .order r
     pub step-order : (j k : ℕ) (tie : Bool) (r : Run) → M .order (M .stepAt j k tie r) ≡ pivotList 0 j k (M .order r)
-    pub picks-first : (j : ℕ) (A B : Run) → j < n → (L : InStep M n s Values j A B) → PicksFirst n (L .positions .σ) j (M .search-from j A) (M .search-from j B)
+    pub picks-first : (j : ℕ) (A B : Run) → j < n → (L : InStep M n s Values j A B) → PicksFirst n (L .positions .σ) j (M .search-from [] j A) (M .search-from [] j B)
 
   -- s lists the first run's pivots before step j
   abbrev Leads : ℕ → Run → Type 0
@@ -50,34 +50,34 @@ module _ {Run : Type 0} (M : Steps Run) (n : ℕ) (s : ℕ → ℕ) (Values : (�
     pub together : Together M n s Values j A B
     pub unmoved : M .order B ≡ identity n
 
-  module _ (K : Laws M n s Values Unit) (O : OrderLaws) where
+  module _ (K : Laws M n s Values Unit [] []) (O : OrderLaws) where
     -- a step keeps the places before it
-    next-low : (j : ℕ) (r : Run) (t : ℕ) → t < j → getD (M .order (next M j r)) t 0 ≡ getD (M .order r) t 0
+    next-low : (j : ℕ) (r : Run) (t : ℕ) → t < j → getD (M .order (next M [] j r)) t 0 ≡ getD (M .order r) t 0
     next-low j r t h = go (is (M .leaves j r))
       where
-        go : Is (M .leaves j r) → getD (M .order (next M j r)) t 0 ≡ getD (M .order r) t 0
+        go : Is (M .leaves j r) → getD (M .order (next M [] j r)) t 0 ≡ getD (M .order r) t 0
         go (holds e) = rw (e, O .leave-order j r)
-        go (fails e) = rw (e, O .step-order j (M .search-from j r .index) (M .search-from j r .tied) r) (pivot-low j _ (M .order r) t h)
+        go (fails e) = rw (e, O .step-order j (M .search-from [] j r .index) (M .search-from [] j r .tied) r) (pivot-low j _ (M .order r) t h)
 
-    step-low : (j : ℕ) (r : Run) → Leads (suc j) (step M j r) → Leads j r
+    step-low : (j : ℕ) (r : Run) → Leads (suc j) (step M [] j r) → Leads j r
     step-low j r h t l = h t (omega arith) ∙ go (is (stopped (M .progress r)))
       where
-        go : Is (stopped (M .progress r)) → getD (M .order (step M j r)) t 0 ≡ getD (M .order r) t 0
-        go (holds e) = rw (stays (M .progress) (next M j) r e)
-        go (fails e) = rw (goes (M .progress) (next M j) r e) (next-low j r t l)
+        go : Is (stopped (M .progress r)) → getD (M .order (step M [] j r)) t 0 ≡ getD (M .order r) t 0
+        go (holds e) = rw (stays (M .progress) (next M [] j) r e)
+        go (fails e) = rw (goes (M .progress) (next M [] j) r e) (next-low j r t l)
 
     -- two runs that go on
     module _ (j : ℕ) (A B : Run) (pj : j < n) (L : InStep M n s Values j A B) (same : M .progress A ≡ M .progress B) (G : Going (M .progress A)) (U : M .order B ≡ identity n) where
       abbrev a : ℕ
-      a = M .search-from j A .index
+      a = M .search-from [] j A .index
 
       abbrev b : ℕ
-      b = M .search-from j B .index
+      b = M .search-from [] j B .index
 
       abbrev tie : Bool
-      tie = M .search-from j A .tied
+      tie = M .search-from [] j A .tied
 
-      W : PicksFirst n (L .positions .σ) j (M .search-from j A) (M .search-from j B)
+      W : PicksFirst n (L .positions .σ) j (M .search-from [] j A) (M .search-from [] j B)
       W = O .picks-first j A B pj L
 
       -- position j of the second run holds the pivot of the first
@@ -90,7 +90,7 @@ module _ {Run : Type 0} (M : Steps Run) (n : ℕ) (s : ℕ → ℕ) (Values : (�
           injective (P .order) (L .positions .σ j) (j + a) (omega arith) (L .positions .bijection .to-high j (omega arith) pj) (omega arith) (W .below) (sym e ∙ f)
 
       searched : s j ≡ getD (pivotList 0 j a (M .order A)) j 0
-          → Own (suc j) (M .stepAt j a tie A) (M .stepAt j b (M .search-from j B .tied) B)
+          → Own (suc j) (M .stepAt j a tie A) (M .stepAt j b (M .search-from [] j B .tied) B)
       searched h =
           let z : b ≡ 0 = W .picked (here h) in
           let C : Corresponding n (L .positions .σ) j a b = record {
@@ -105,26 +105,26 @@ module _ {Run : Type 0} (M : Steps Run) (n : ℕ) (s : ℕ → ℕ) (Values : (�
             unmoved = O .step-order j _ _ B ∙ pivot-none j _ (M .order B) z ∙ U;
           }
 
-      next-own : Leads (suc j) (next M j A) → Own (suc j) (next M j A) (next M j B)
+      next-own : Leads (suc j) (next M [] j A) → Own (suc j) (next M [] j A) (next M [] j B)
       next-own h = go (is (M .leaves j A)) h
         where
-          go : Is (M .leaves j A) → Leads (suc j) (next M j A) → Own (suc j) (next M j A) (next M j B)
+          go : Is (M .leaves j A) → Leads (suc j) (next M [] j A) → Own (suc j) (next M [] j A) (next M [] j B)
           go (holds e) h = rw (e, sym (K .leaves-alike j A B pj L) ∙ e) (record { together = K .leave-alike j A B e L same G; unmoved = O .leave-order j B ∙ U })
           go (fails e) h = rw (e, sym (K .leaves-alike j A B pj L) ∙ e) (searched ((rw e at (h j (omega arith))) ∙ ap (λ (p : List ℕ). getD p j 0) (O .step-order j _ _ A)))
 
-    step-own : (j : ℕ) (A B : Run) → j < n → Own j A B → Leads (suc j) (step M j A) → Own (suc j) (step M j A) (step M j B)
+    step-own : (j : ℕ) (A B : Run) → j < n → Own j A B → Leads (suc j) (step M [] j A) → Own (suc j) (step M [] j A) (step M [] j B)
     step-own j A B pj T h = go (is (stopped (M .progress A)))
       where
         second : stopped (M .progress B) ≡ stopped (M .progress A)
         second = ap stopped (sym (T .together .same))
 
-        go : Is (stopped (M .progress A)) → Own (suc j) (step M j A) (step M j B)
-        go (holds e) = rw (stays (M .progress) (next M j) A e, stays (M .progress) (next M j) B (second ∙ e))
+        go : Is (stopped (M .progress A)) → Own (suc j) (step M [] j A) (step M [] j B)
+        go (holds e) = rw (stays (M .progress) (next M [] j) A e, stays (M .progress) (next M [] j) B (second ∙ e))
             (record { together = stopped-together M n s Values j A B e (T .together); unmoved = T .unmoved })
         go (fails e) =
             let G = going (M .progress A) e in
-            rw (goes (M .progress) (next M j) A e, goes (M .progress) (next M j) B (second ∙ e))
-            (next-own j A B pj (going-together M n s Values j A B G (T .together)) (T .together .same) G (T .unmoved) (rw (goes (M .progress) (next M j) A e) at h))
+            rw (goes (M .progress) (next M [] j) A e, goes (M .progress) (next M [] j) B (second ∙ e))
+            (next-own j A B pj (going-together M n s Values j A B G (T .together)) (T .together .same) G (T .unmoved) (rw (goes (M .progress) (next M [] j) A e) at h))
 
-    pub own : (A B : Run) → Own 0 A B → Leads n (range 0 n (step M) A) → Own n (range 0 n (step M) A) (range 0 n (step M) B)
-    own A B T = range2-ind (λ j A B. Leads j A → Own j A B) 0 n (step M) (step M) A B (omega arith) (λ h. T) (λ j p q A B I h. step-own j A B q (I (step-low j A h)) h)
+    pub own : (A B : Run) → Own 0 A B → Leads n (range 0 n (step M []) A) → Own n (range 0 n (step M []) A) (range 0 n (step M []) B)
+    own A B T = range2-ind (λ j A B. Leads j A → Own j A B) 0 n (step M []) (step M []) A B (omega arith) (λ h. T) (λ j p q A B I h. step-own j A B q (I (step-low j A h)) h)

@@ -1,7 +1,7 @@
 -- Two runs of SE90, or of SE99: the steps of phase one keep them in step, and how they end. Phase two changes neither the tied nor the
 -- phase-two step.
 use mathlib.Core.Path.{_≡_, refl, sym, ap, ap₂, _∙_, subst}
-use mathlib.Core.List.{List}
+use mathlib.Core.List.{List, []}
 use mathlib.Core.Bool.{Bool, true, false}
 use Prim.Native.Nat.{ℕ, suc, _+_, _<_}
 use native.Mathlib.Decide.{decLt}
@@ -36,7 +36,7 @@ use Rattle.methods.proofs.SeRuns.{KeptInPhaseTwo, phaseTwo-keeps}
 use Rattle.methods.proofs.Loaded.{Good, Loaded, gamma-same}
 use Rattle.methods.proofs.LoadOrders.{order}
 use Rattle.load_order.proofs.Positions.{Pivoted, earlier, loaded-positions, same-pivots, same-amounts}
-use Rattle.load_order.proofs.Picks.{diagonal-picks, diagonal-picks-first}
+use Rattle.load_order.proofs.Picks.{Searches, without-numbers, diagonal-picks-first}
 use Rattle.load_order.proofs.Lockstep.{Steps, InStep, Together, Runs, Laws, runs}
 use Rattle.load_order.proofs.OwnSteps.{OrderLaws, Own, own}
 use Rattle.load_order.proofs.Ends.{End, Ended, BothAlike, ProgressKept, runs-end, together-end}
@@ -83,7 +83,7 @@ module _ (v : Variant) (t : Tolerances) (gamma : Float) (n : ℕ) where
     order = λ r. r .p;
     leaves = λ j r. leavesBefore v t gamma n j (r .l);
     leave = leave;
-    search-from = λ j r. pick false (diagonal n (r .l)) j;
+    search-from = λ numbers j r. pick numbers (r .p) false (diagonal n (r .l)) j;
     stepAt = stepAt v t gamma n;
   }
 
@@ -173,13 +173,13 @@ module _ (v : Variant) (t : Tolerances) (gamma : Float) (n : ℕ) (s : ℕ → �
       go (holds p) = rw p
       go (fails p) = rw p
 
-  laws : Laws (steps v t gamma n) n s (Values n) Unit
-  laws = record {
+  laws : (May : Type 0) (first second : List ℕ) → Searches May false n s first second → Laws (steps v t gamma n) n s (Values n) May first second
+  laws May first second S = record {
     leaves-alike = λ j A B pj L. leavesBefore-along v t gamma n j (L .positions .σ) (L .positions .τ) (A .l) (B .l) pj (L .positions .bijection) (L .positions .fixes) (L .values .moved)
         (λ x p. L .values .good x x p p .number) (λ x p. L .values .good x x p p .double);
     leave-alike = λ j A B h L same G. record { same = ap (left j) same; in-step = λ e. rw (G .phase2) (record { positions = L .positions; values = L .values }) };
     leave-tied = λ j r. refl;
-    picks = λ j A B pj L. diagonal-picks false n j (L .positions) (A .l) (B .l) pj (L .values .moved) (λ i p q. finite-number (at n (A .l) i i) (L .values .good i i q q .number));
+    picks = λ j A B pj L. S .picks j (A .p) (B .p) (L .positions) (A .l) (B .l) pj (L .values .moved) (λ i p q. finite-number (at n (A .l) i i) (L .values .good i i q q .number));
     step-alike = step-alike v t gamma n s;
     step-tied = step-tied;
   }
@@ -194,9 +194,10 @@ module _ (v : Variant) (t : Tolerances) (gamma : Float) (n : ℕ) (s : ℕ → �
     };
   }
 
-  phase-one-runs : (s' : ℕ → ℕ) (A B : List Float) → Loaded n s s' A B → Runs (steps v t gamma n) n s (Values n) Unit n (phaseOne v t gamma n (start n A)) (phaseOne v t gamma n (start n B))
+  phase-one-runs : (May : Type 0) (first second : List ℕ) → Searches May false n s first second → (s' : ℕ → ℕ) (A B : List Float) → Loaded n s s' A B
+      → Runs (steps v t gamma n) n s (Values n) May n (phaseOne v t first gamma n (start n A)) (phaseOne v t second gamma n (start n B))
   unfolding phaseOne inPhaseOne phaseOneStep
-  phase-one-runs s' A B D = runs (steps v t gamma n) n s (Values n) Unit laws (start n A) (start n B) (starts s' A B D)
+  phase-one-runs May first second S s' A B D = runs (steps v t gamma n) n s (Values n) May first second (laws May first second S) (start n A) (start n B) (starts s' A B D)
 
   step-order : (j k : ℕ) (tie : Bool) (r : Run) → stepAt v t gamma n j k tie r .p ≡ pivotList 0 j k (r .p)
   unfolding stepAt pivot factorize
@@ -217,10 +218,10 @@ module _ (v : Variant) (t : Tolerances) (gamma : Float) (n : ℕ) (s : ℕ → �
   unfolding start
   start-order a = refl
 
-  phase-one-own : (s' : ℕ → ℕ) (A B : List Float) → Loaded n s s' A B → ((i : ℕ) → i < n → s i ≡ getD (phaseOne v t gamma n (start n A) .p) i 0)
-      → Own (steps v t gamma n) n s (Values n) n (phaseOne v t gamma n (start n A)) (phaseOne v t gamma n (start n B))
+  phase-one-own : (s' : ℕ → ℕ) (A B : List Float) → Loaded n s s' A B → ((i : ℕ) → i < n → s i ≡ getD (phaseOne v t [] gamma n (start n A) .p) i 0)
+      → Own (steps v t gamma n) n s (Values n) n (phaseOne v t [] gamma n (start n A)) (phaseOne v t [] gamma n (start n B))
   unfolding phaseOne inPhaseOne phaseOneStep
-  phase-one-own s' A B D h = own (steps v t gamma n) n s (Values n) laws order-laws (start n A) (start n B) (record { together = starts s' A B D; unmoved = start-order B }) h
+  phase-one-own s' A B D h = own (steps v t gamma n) n s (Values n) (laws Unit [] [] (without-numbers false n s)) order-laws (start n A) (start n B) (record { together = starts s' A B D; unmoved = start-order B }) h
 
 -- ---- phase two keeps the marks
 record SameMarks (r q : Run) : Type 0 where
@@ -242,22 +243,22 @@ module _ (v : Variant) (t : Tolerances) (gamma : Float) (n : ℕ) where
   }
 
   -- a run that stayed in phase one
-  stayed : (r : Run) → r .progress .phase2 ≡ Never → phaseTwo v t gamma n r ≡ r
+  stayed : (numbers : List ℕ) (r : Run) → r .progress .phase2 ≡ Never → phaseTwo v t numbers gamma n r ≡ r
   unfolding phaseTwoAfter
-  stayed r e = rw e
+  stayed numbers r e = rw e
 
-  finished : (a : List Float) → let r = phaseOne v t gamma n (start n a) in ProgressKept (r .progress) (endOf n (phaseTwo v t gamma n r))
-  finished a =
-      let r = phaseOne v t gamma n (start n a) in
-      let K = phaseTwo-keeps v t gamma n a (SameMarks r) (SameMarks r) (kept-two r) (record { tied = refl; phase2 = refl }) in
-      record { tied = K .tied; phase2 = K .phase2; refused = λ k e p. ap (λ (q : Run). q .progress) (stayed r p) }
+  finished : (numbers : List ℕ) (a : List Float) → let r = phaseOne v t numbers gamma n (start n a) in ProgressKept (r .progress) (endOf n (phaseTwo v t numbers gamma n r))
+  finished numbers a =
+      let r = phaseOne v t numbers gamma n (start n a) in
+      let K = phaseTwo-keeps v t numbers gamma n a (SameMarks r) (SameMarks r) (kept-two r) (record { tied = refl; phase2 = refl }) in
+      record { tied = K .tied; phase2 = K .phase2; refused = λ k e p. ap (λ (q : Run). q .progress) (stayed numbers r p) }
 
   -- ---- the end
-  complete : (s : List ℕ) (A B : Run) → InStep (steps v t gamma n) n (order s) (Values n) n A B → A .progress ≡ B .progress → Going (A .progress)
-      → BothAlike n s (endOf n (phaseTwo v t gamma n A)) (endOf n (phaseTwo v t gamma n B))
-  complete s A B L same G =
-      subst (λ (r : Run). BothAlike n s (endOf n r) (endOf n (phaseTwo v t gamma n B))) (sym (stayed A (G .phase2)))
-      (subst (λ (r : Run). BothAlike n s (endOf n A) (endOf n r)) (sym (stayed B (sym (ap (λ (r : Progress). r .phase2) same) ∙ G .phase2)))
+  complete : (first second : List ℕ) (s : List ℕ) (A B : Run) → InStep (steps v t gamma n) n (order s) (Values n) n A B → A .progress ≡ B .progress → Going (A .progress)
+      → BothAlike n s (endOf n (phaseTwo v t first gamma n A)) (endOf n (phaseTwo v t second gamma n B))
+  complete first second s A B L same G =
+      subst (λ (r : Run). BothAlike n s (endOf n r) (endOf n (phaseTwo v t second gamma n B))) (sym (stayed first A (G .phase2)))
+      (subst (λ (r : Run). BothAlike n s (endOf n A) (endOf n r)) (sym (stayed second B (sym (ap (λ (r : Progress). r .phase2) same) ∙ G .phase2)))
       (record {
         same = same;
         completed = λ r. record {
@@ -268,26 +269,26 @@ module _ (v : Variant) (t : Tolerances) (gamma : Float) (n : ℕ) where
       }))
 
   -- a run with no second phase has the order of phase one
-  stayed-order : (a : List Float) → let r = phaseOne v t gamma n (start n a) in phaseTwo v t gamma n r .progress .phase2 ≡ Never → phaseTwo v t gamma n r .p ≡ r .p
-  stayed-order a e = let r = phaseOne v t gamma n (start n a) in ap (λ (q : Run). q .p) (stayed r (sym (finished a .phase2) ∙ e))
+  stayed-order : (numbers : List ℕ) (a : List Float) → let r = phaseOne v t numbers gamma n (start n a) in phaseTwo v t numbers gamma n r .progress .phase2 ≡ Never → phaseTwo v t numbers gamma n r .p ≡ r .p
+  stayed-order numbers a e = let r = phaseOne v t numbers gamma n (start n a) in ap (λ (q : Run). q .p) (stayed numbers r (sym (finished numbers a .phase2) ∙ e))
 
 module _ (v : Variant) (t : Tolerances) (n : ℕ) (s : List ℕ) (s' : ℕ → ℕ) (A B : List Float) (D : Loaded n (order s) s' A B) where
   -- the second run has the first one's gamma
   abbrev gamma : Float
   gamma = diagonalMax n A
 
-  second-run : phaseTwo v t gamma n (phaseOne v t gamma n (start n B)) ≡ run v t n B
+  second-run : (numbers : List ℕ) → phaseTwo v t numbers gamma n (phaseOne v t numbers gamma n (start n B)) ≡ run v t numbers n B
   unfolding run
-  second-run = ap (λ (x : Float). phaseTwo v t x n (phaseOne v t x n (start n B))) (gamma-same D)
+  second-run numbers = ap (λ (x : Float). phaseTwo v t numbers x n (phaseOne v t numbers x n (start n B))) (gamma-same D)
 
-  pub se-ended : Ended n s (endOf n (run v t n A)) (endOf n (run v t n B))
+  pub se-ended : (May : Type 0) (first second : List ℕ) → Searches May false n (order s) first second → Ended May n s (endOf n (run v t first n A)) (endOf n (run v t second n B))
   unfolding run
-  se-ended = subst (λ (r : Run). Ended n s (endOf n (run v t n A)) (endOf n r)) second-run
-      (runs-end (steps v t gamma n) n s (Values n) Unit _ _ _ _ (finished v t gamma n A) (finished v t gamma n B) (complete v t gamma n s _ _) (phase-one-runs v t gamma n (order s) s' A B D))
+  se-ended May first second S = subst (λ (r : Run). Ended May n s (endOf n (run v t first n A)) (endOf n r)) (second-run second)
+      (runs-end (steps v t gamma n) n s (Values n) May _ _ _ _ (finished v t gamma n first A) (finished v t gamma n second B) (complete v t gamma n first second s _ _) (phase-one-runs v t gamma n (order s) May first second S s' A B D))
 
-  -- s is the first run's order
-  pub se-own : run v t n A .p ≡ s → run v t n A .progress .phase2 ≡ Never → run v t n A .progress .refused ≡ Never → BothAlike n s (endOf n (run v t n A)) (endOf n (run v t n B))
+  -- s is the first run's order, and there are no numbers
+  pub se-own : run v t [] n A .p ≡ s → run v t [] n A .progress .phase2 ≡ Never → run v t [] n A .progress .refused ≡ Never → BothAlike n s (endOf n (run v t [] n A)) (endOf n (run v t [] n B))
   unfolding run
-  se-own e p q = subst (λ (r : Run). BothAlike n s (endOf n (run v t n A)) (endOf n r)) second-run
-      (together-end (steps v t gamma n) n s (Values n) Unit _ _ _ _ (finished v t gamma n A) (finished v t gamma n B) (complete v t gamma n s _ _)
-      (phase-one-own v t gamma n (order s) s' A B D (λ i h. ap (λ (x : List ℕ). getD x i 0) (sym e ∙ stayed-order v t gamma n A p)) .together) p q)
+  se-own e p q = subst (λ (r : Run). BothAlike n s (endOf n (run v t [] n A)) (endOf n r)) (second-run [])
+      (together-end (steps v t gamma n) n s (Values n) Unit _ _ _ _ (finished v t gamma n [] A) (finished v t gamma n [] B) (complete v t gamma n [] [] s _ _)
+      (phase-one-own v t gamma n (order s) s' A B D (λ i h. ap (λ (x : List ℕ). getD x i 0) (sym e ∙ stayed-order v t gamma n [] A p)) .together) p q)

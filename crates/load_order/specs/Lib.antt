@@ -1,3 +1,5 @@
 pub mod LoadOrder
 pub mod Calls
 pub mod OwnOrder
+pub mod TieRule
+pub mod Numbered

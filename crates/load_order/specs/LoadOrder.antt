@@ -1,7 +1,7 @@
 -- Document 01's section 'Load order': one statement about two whole runs of the same method, the first on a matrix, the second on its
--- reloading. It is proved as `load-order` in proofs/Theorem.antt, for every n, every tau, tau_bar and mu.
+-- reloading, both without contract numbers. It is proved as `load-order` in proofs/Theorem.antt, for every n, every tau, tau_bar and mu.
 use mathlib.Core.Path.{_≡_}
-use mathlib.Core.List.{List}
+use mathlib.Core.List.{List, []}
 use Prim.Native.Nat.{ℕ, _<_}
 use lib.ListN.{getD}
 use lib.Ieee.{Float, nan}
@@ -14,13 +14,14 @@ use Rattle.methods.specs.declared.method.Method.{Method}
 use Rattle.methods.specs.declared.schnabel_eskow.Tolerances.{Tolerances}
 use Rattle.methods.specs.declared.decomposition.Mark.the-variants.{Never}
 
--- what is alike where no step is tied and no second phase begins
+-- what is alike of two whole results
 pub record AlikeThroughout (n : ℕ) (s : List ℕ) (first second : Result) : Type 0 where
   pub outcome : first .decomposition .outcome ≡ second .decomposition .outcome
   pub factors : first .l ≡ second .l
   pub amounts : (i : ℕ) → i < n → getD (second .e) i nan ≡ getD (first .e) (getD s i 0) nan
   pub pivots : first .decomposition .outcome ≡ Complete → (t : ℕ) → t < n → getD (first .p) t 0 ≡ getD s (getD (second .p) t 0) 0
 
+-- throughout where no step is tied and no second phase begins
 pub record Alike (n : ℕ) (s : List ℕ) (first second : Result) : Type 0 where
   pub tied : first .decomposition .tied ≡ second .decomposition .tied
   pub phase2 : first .decomposition .tied ≡ Never → first .decomposition .phase2 ≡ second .decomposition .phase2
@@ -30,4 +31,4 @@ abbrev pub LoadOrderTheorem : Type 0
 LoadOrderTheorem =
     (method : Method) (tolerances : Tolerances) (n : ℕ) (a : List Float) (s : List ℕ)
     → AcceptedMatrix n a → LoadOrder n s
-    → Alike n s (factor method tolerances n a) (factor method tolerances n (reload n s a))
+    → Alike n s (factor method tolerances [] n a) (factor method tolerances [] n (reload n s a))

@@ -1,7 +1,7 @@
--- What p[t] means: a run on the matrix reloaded by its own p takes the rows as they come, tied or not. Proved as `own-order` in
+-- What p[t] means, without contract numbers: a run on the matrix reloaded by its own p takes the rows as they come, tied or not. Proved as `own-order` in
 -- proofs/OwnOrder.antt, for every n, every tau, tau_bar and mu.
 use mathlib.Core.Path.{_≡_}
-use mathlib.Core.List.{List}
+use mathlib.Core.List.{List, []}
 use Prim.Native.Nat.{ℕ, _<_}
 use lib.ListN.{getD}
 use lib.Ieee.{Float, nan}
@@ -27,6 +27,6 @@ abbrev pub OwnOrderTheorem : Type 0
 OwnOrderTheorem =
     (method : Method) (tolerances : Tolerances) (n : ℕ) (a : List Float)
     → AcceptedMatrix n a
-    → let first = factor method tolerances n a in
+    → let first = factor method tolerances [] n a in
     first .decomposition .outcome ≡ Complete → first .decomposition .phase2 ≡ Never
-    → OwnOrder n first (factor method tolerances n (reload n (first .p) a))
+    → OwnOrder n first (factor method tolerances [] n (reload n (first .p) a))

@@ -13,19 +13,19 @@ use lib.Dec.{T, eqb, leb, ltb}
 use lib.Ieee.{Float, nan, binary64, toBits, ofBits, fits}
 use lib.Ieee.Bits.{ofBits-toBits}
 use lib.Ieee.Scale.{finite}
-use borrow.Author.Tests.{not-true, not-false, eqb-true, eqb-false, ltb-false, lt-ltb, leb-true, leb-false, le-leb}
+use borrow.Author.Tests.{not-true, not-false, ne-eqb, eqb-true, eqb-false, ltb-true, ltb-false, lt-ltb, le-ltb, leb-true, leb-false, le-leb}
 use Rattle.arithmetic.specs.All.{all}
 use Rattle.arithmetic.proofs.AllLaws.{all-each, all-true}
 use Rattle.arithmetic.specs.First.{first, firstFrom}
-use Rattle.arithmetic.proofs.FirstLaws.{first-is}
+use Rattle.arithmetic.proofs.FirstLaws.{first-is, first-none}
 use Rattle.arithmetic.proofs.OrderLaws.{or-1, or-2}
 use Rattle.arithmetic.specs.Outcome.{complete, refuse, _then_}
 use Rattle.arithmetic.proofs.OutcomeLaws.{then-complete, refuse-complete}
 use Rattle.arithmetic.specs.declared.outcome.Outcome.{Outcome}
-use Rattle.arithmetic.specs.declared.outcome.Outcome.the-variants.{Complete, SizeOutOfRange, MatrixLength, BufferLength, IndexOutOfRange, NotFinite, Unsymmetric}
+use Rattle.arithmetic.specs.declared.outcome.Outcome.the-variants.{Complete, SizeOutOfRange, MatrixLength, BufferLength, IndexOutOfRange, NotFinite, Unsymmetric, NumbersLength, NumberRepeated}
 use Rattle.matrix.specs.Matrix.{Square, at}
 use Rattle.matrix.proofs.CellLaws.{cell-lt}
-use Rattle.matrix.specs.Checks.{check-size, check-matrix, check-buffer, check-index, check-indices, check-finite, check-symmetric, outOfRange, notFinite, firstNotFinite, sameBits, unsymmetric, firstUnsymmetric, AllFinite}
+use Rattle.matrix.specs.Checks.{check-size, check-matrix, check-buffer, check-index, check-indices, check-finite, check-symmetric, check-numbers, check-distinct, outOfRange, notFinite, firstNotFinite, sameBits, unsymmetric, firstUnsymmetric, firstSame, cameBefore, firstRepeated, Distinct, AllFinite}
 use Rattle.matrix.specs.Plain.{AllBelow}
 use Rattle.arithmetic.proofs.Cases.{same-tests}
 
@@ -159,3 +159,51 @@ module _ (n : ℕ) (m : List Float) (doubles : (i j : ℕ) → i < n → j < n �
     | yes l ↦ above i j l q
     | no l ↦ elim (ℕ-discrete i j) [ yes e ↦ rw e | no d ↦ sym (above j i (omega arith) p) ]
   ]
+
+-- ---- contract numbers
+pub numbers-accepted : (n len : ℕ) → Accepted (check-numbers n len) → len ≡ n
+numbers-accepted n len h = eqb-true len n (not-false (eqb len n) (refuse-complete (not (eqb len n)) NumbersLength refl (h .is)))
+
+module _ (numbers : List ℕ) where
+  -- where the number at k didn't come before, none before k is equal to it
+  new-number : (i k : ℕ) → cameBefore numbers k ≡ false → i < k → getD numbers i 0 ≡ getD numbers k 0 → ⊥
+  new-number i k h l =
+      let q : k ≤ firstSame numbers k = ltb-false (firstSame numbers k) k h in
+      eqb-false (getD numbers i 0) (getD numbers k 0) (first-is (λ j. eqb (getD numbers j 0) (getD numbers k 0)) k .good i (omega arith) (omega arith))
+
+  pub distinct-accepted : Accepted (check-distinct numbers) → Distinct numbers
+  distinct-accepted h = record {
+    once = λ i k p q e. elim (decLt i k) [
+      | yes l ↦ absurd (new-number i k (fresh k q) l e)
+      | no l ↦ elim (decLt k i) [ yes m ↦ absurd (new-number k i (fresh i p) m (sym e)) | no m ↦ omega arith ]
+    ];
+  }
+    where
+      fresh : (k : ℕ) → k < length numbers → cameBefore numbers k ≡ false
+      fresh k q =
+          let w : length numbers ≤ firstRepeated numbers = ltb-false (firstRepeated numbers) (length numbers) (refuse-complete (ltb (firstRepeated numbers) (length numbers)) (NumberRepeated (firstRepeated numbers)) refl (h .is)) in
+          first-is (cameBefore numbers) (length numbers) .good k (omega arith) (omega arith)
+
+  pub distinct-passes : Distinct numbers → Accepted (check-distinct numbers)
+  distinct-passes D = record { is = rw (none, le-ltb (length numbers) (length numbers) (omega arith)) }
+    where
+      differ : (k : ℕ) → k < length numbers → (i : ℕ) → i < k → eqb (getD numbers i 0) (getD numbers k 0) ≡ false
+      differ k q i l = ne-eqb (getD numbers i 0) (getD numbers k 0) (λ e. omega (arith, D .once i k (omega arith) q e))
+
+      fresh : (k : ℕ) → k < length numbers → cameBefore numbers k ≡ false
+      fresh k q = rw (first-none (λ i. eqb (getD numbers i 0) (getD numbers k 0)) k (differ k q), le-ltb k k (omega arith))
+
+      none : firstRepeated numbers ≡ length numbers
+      none = first-none (cameBefore numbers) (length numbers) fresh
+
+  -- 13's place: its number stands before it, and before it no number stands twice
+  pub repeated-first : firstRepeated numbers < length numbers
+      → (firstSame numbers (firstRepeated numbers) < firstRepeated numbers)
+      × (getD numbers (firstSame numbers (firstRepeated numbers)) 0 ≡ getD numbers (firstRepeated numbers) 0)
+      × ((i k : ℕ) → i < k → k < firstRepeated numbers → getD numbers i 0 ≡ getD numbers k 0 → ⊥)
+  repeated-first h =
+      let f = firstRepeated numbers in
+      let F = first-is (cameBefore numbers) (length numbers) in
+      let g = firstSame numbers f in
+      let l : g < f = ltb-true g f (F .here h) in
+      (l, eqb-true (getD numbers g 0) (getD numbers f 0) (first-is (λ i. eqb (getD numbers i 0) (getD numbers f 0)) f .here l), λ i k p q. new-number i k (F .good k (omega arith) q) p)

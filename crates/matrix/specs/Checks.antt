@@ -1,4 +1,4 @@
--- The checks that calls share, each with its refusal and place (document 01, 'Refusals, in checking order').
+-- The checks that calls share, each with its refusal and place (document 01, 'Refusals, in checking order'; 12 and 13 are document 02's).
 use mathlib.Core.List.{List}
 use mathlib.Core.Path.{_≡_}
 use mathlib.Core.Bool.{Bool, true, not, _||_, _&&_}
@@ -10,7 +10,7 @@ use lib.Ieee.Scale.{finite}
 use Rattle.arithmetic.specs.First.{first, firstFrom}
 use Rattle.arithmetic.specs.Outcome.{refuse}
 use Rattle.arithmetic.specs.declared.outcome.Outcome.{Outcome}
-use Rattle.arithmetic.specs.declared.outcome.Outcome.the-variants.{SizeOutOfRange, MatrixLength, BufferLength, IndexOutOfRange, NotFinite, Unsymmetric}
+use Rattle.arithmetic.specs.declared.outcome.Outcome.the-variants.{SizeOutOfRange, MatrixLength, BufferLength, IndexOutOfRange, NotFinite, Unsymmetric, NumbersLength, NumberRepeated}
 use Rattle.matrix.specs.Matrix.{at}
 
 -- 3: n of 0 or above 48
@@ -66,6 +66,27 @@ firstUnsymmetric n m = first (unsymmetric n m) (n * n)
 
 abbrev pub check-symmetric : ℕ → List Float → Outcome
 check-symmetric n m = refuse (ltb (firstUnsymmetric n m) (n * n)) (Unsymmetric (firstUnsymmetric n m / n) (firstUnsymmetric n m % n))
+
+-- 12: a number for each of n contracts
+abbrev pub check-numbers : ℕ → ℕ → Outcome
+check-numbers n len = refuse (not (eqb len n)) NumbersLength
+
+-- 13: the first position whose number came before. The first position before k with the number at k, or k
+abbrev pub firstSame : List ℕ → ℕ → ℕ
+firstSame numbers k = first (λ i. eqb (getD numbers i 0) (getD numbers k 0)) k
+
+abbrev pub cameBefore : List ℕ → ℕ → Bool
+cameBefore numbers k = ltb (firstSame numbers k) k
+
+abbrev pub firstRepeated : List ℕ → ℕ
+firstRepeated numbers = first (cameBefore numbers) (length numbers)
+
+abbrev pub check-distinct : List ℕ → Outcome
+check-distinct numbers = refuse (ltb (firstRepeated numbers) (length numbers)) (NumberRepeated (firstRepeated numbers))
+
+-- no two numbers are equal
+pub record Distinct (numbers : List ℕ) : Type 0 where
+  pub once : (i k : ℕ) → i < length numbers → k < length numbers → getD numbers i 0 ≡ getD numbers k 0 → i ≡ k
 
 -- every entry is finite
 abbrev pub AllFinite : ℕ → List Float → Type 0

@@ -7,7 +7,7 @@ ghost use lib.Ieee.{nan};
 ghost use lib.Ieee.Scale.{finite};
 ghost use Rattle.arithmetic.specs.All.{all};
 ghost use Rattle.matrix.specs.Matrix.{Square};
-ghost use Rattle.matrix.specs.Checks.{check-size, check-some, check-matrix, check-buffer, check-index, check-indices, check-finite, check-symmetric, firstNotFinite, firstMismatch, AllFinite};
+ghost use Rattle.matrix.specs.Checks.{check-size, check-some, check-matrix, check-buffer, check-index, check-indices, check-finite, check-symmetric, check-numbers, check-distinct, firstNotFinite, firstMismatch, firstSame, AllFinite};
 use crate::entries::get;
 use arithmetic::double::finite;
 use arithmetic::outcome::Outcome;
@@ -167,6 +167,43 @@ pub fn check_symmetric(n: usize, m: &[f64]) -> Outcome
         let j = first_mismatch(m, n, i);
         if j < n {
             return Outcome::Unsymmetric { row: i, column: j };
+        }
+    }
+    Outcome::Complete
+}
+
+// A number for each of n contracts.
+pub fn check_numbers(n: usize, len: usize) -> Outcome
+    ensures { λ r. ⌜ r ≡ check-numbers n len ⌝ }
+{
+    if len != n {
+        return Outcome::NumbersLength;
+    }
+    Outcome::Complete
+}
+
+// The first position before k with the number at k, or k.
+fn first_same(numbers: &[u32], k: usize) -> usize
+    requires { ⌜ k < length (now numbers) ⌝ }
+    ensures { λ r. ⌜ r ≡ firstSame (now (numbers .entry)) k ⌝ }
+{
+    let number = numbers[k];
+    for i in 0..k {
+        if numbers[i] == number {
+            return i;
+        }
+    }
+    k
+}
+
+pub fn check_distinct(numbers: &[u32]) -> Outcome
+    ensures { λ r. ⌜ r ≡ check-distinct (now (numbers .entry)) ⌝ }
+{
+    let len = numbers.len();
+    for k in 0..len {
+        let i = first_same(numbers, k);
+        if i < k {
+            return Outcome::NumberRepeated { position: k };
         }
     }
     Outcome::Complete

@@ -13,19 +13,20 @@ use borrow.Author.Tests.{not-false, leb-true, le-leb, eq-eqb, ne-eqb, le-ltb}
 use Rattle.arithmetic.specs.First.{first}
 use Rattle.arithmetic.specs.Outcome.{refuse, _then_}
 use Rattle.arithmetic.specs.declared.outcome.Outcome.{Outcome}
-use Rattle.arithmetic.specs.declared.outcome.Outcome.the-variants.{UnknownMethod, SizeOutOfRange}
+use Rattle.arithmetic.specs.declared.outcome.Outcome.the-variants.{Complete, UnknownMethod, SizeOutOfRange}
 use Rattle.arithmetic.proofs.FirstLaws.{first-none}
 use Rattle.arithmetic.proofs.OrderLaws.{and-1, and-2}
 use Rattle.arithmetic.proofs.OutcomeLaws.{refuse-complete}
 use Rattle.matrix.specs.Matrix.{at}
 use Rattle.matrix.specs.Checks.{check-size, check-buffer, check-finite, check-symmetric, notFinite, unsymmetric}
 use Rattle.matrix.proofs.CellLaws.{cell-lt}
-use Rattle.matrix.proofs.CheckLaws.{Accepted, both-accepted, goes-on, size-accepted, matrix-accepted, buffer-accepted, entries-accepted, symmetric-accepted}
+use Rattle.matrix.proofs.CheckLaws.{Accepted, both-accepted, goes-on, matrix-accepted, buffer-accepted, entries-accepted, symmetric-accepted, numbers-accepted, distinct-accepted, distinct-passes}
 use Rattle.arithmetic.specs.DoubleList.{AllDoubles}
-use Rattle.methods.specs.Accepted.{AcceptedOperands, AcceptedTheorem}
+use Rattle.methods.specs.Accepted.{AcceptedOperands, AcceptedTheorem, AcceptedNumbers, AcceptedNumberedTheorem}
 use Rattle.methods.specs.AcceptedMatrix.{AcceptedMatrix}
 use Rattle.methods.specs.Reloading.{LoadOrder, reload}
-use Rattle.methods.specs.Calls.{check-method, operand-checks, factor-checks}
+use Rattle.methods.specs.Calls.{check-method, number-checks, operandChain, operand-checks, factor-checks}
+use Rattle.methods.proofs.CallLaws.{chain-passed}
 use Rattle.methods.proofs.LoadOrders.{order}
 use Rattle.methods.proofs.Loaded.{loaded}
 
@@ -71,53 +72,64 @@ method-accepted method h =
     let t : (leb 1 method && leb method 3) ≡ true = not-false (leb 1 method && leb method 3) (refuse-complete (not (leb 1 method && leb method 3)) UnknownMethod refl (h .is)) in
     (leb-true 1 method (and-1 (leb 1 method) (leb method 3) t), leb-true method 3 (and-2 (leb 1 method) (leb method 3) t))
 
-module _ (method n : ℕ) (a : List Float) (l work e p : ℕ) where
-  operands-passed : Accepted (operand-checks method n (length a) l work e p) → AllDoubles a → Accepted (check-finite n a) → Accepted (check-symmetric n a) → AcceptedOperands method n a l work e p
-  unfolding operand-checks
+module _ (method n : ℕ) (a : List Float) (numbering : Outcome) (l work e p : ℕ) where
+  operands-passed : Accepted (operand-checks method n (length a) numbering l work e p) → AllDoubles a → Accepted (check-finite n a) → Accepted (check-symmetric n a) → AcceptedOperands method n a l work e p × Accepted numbering
   operands-passed h d f y =
-      let P = both-accepted _ _ h in
-      let E = both-accepted _ _ (P .0) in
-      let W = both-accepted _ _ (E .0) in
-      let L = both-accepted _ _ (W .0) in
-      let M = both-accepted _ _ (L .0) in
-      let S = both-accepted _ _ (M .0) in
-      let method-is = method-accepted method (S .0) in
-      let size-is = size-accepted n (S .1) in
-      let entries = matrix-accepted n (length a) (M .1) in
-      let doubles : (i j : ℕ) → i < n → j < n → T (fits binary64 (at n a i j)) = λ i j u w. d (i * n + j) (omega (arith, entries, cell-lt n i j u w)) in
-      record {
-        method-from = method-is .0;
-        method-to = method-is .1;
-        rows-from = size-is .0;
-        rows-to = omega (arith, size-is .1);
-        matrix = record {
-          entries = entries;
-          doubles = doubles;
-          finite-entries = entries-accepted n a (record { len = entries; small = size-is .1 }) f;
-          symmetric = symmetric-accepted n a doubles y;
-        };
-        l-is = buffer-accepted (n * n) l (L .1);
-        work-is = buffer-accepted (n * n) work (W .1);
-        e-is = buffer-accepted n e (E .1);
-        p-is = buffer-accepted n p (P .1);
-      }
+      let C = chain-passed _ _ _ _ _ _ _ _ h in
+      let method-is = method-accepted method (C .method-is) in
+      let size-is = C .size-is in
+      let entries = matrix-accepted n (length a) (C .matrix-is) in
+      let doubles : (i j : ℕ) → i < n → j < n → T (fits binary64 (at n a i j)) = λ i j u w. d (i * n + j) (omega (arith, entries, cell-lt n i j u w)) in (
+        record {
+          method-from = method-is .0;
+          method-to = method-is .1;
+          rows-from = size-is .0;
+          rows-to = size-is .1;
+          matrix = record {
+            entries = entries;
+            doubles = doubles;
+            finite-entries = entries-accepted n a (record { len = entries; small = size-is .1 }) f;
+            symmetric = symmetric-accepted n a doubles y;
+          };
+          l-is = buffer-accepted (n * n) l (C .l-is);
+          work-is = buffer-accepted (n * n) work (C .work-is);
+          e-is = buffer-accepted n e (C .e-is);
+          p-is = buffer-accepted n p (C .p-is);
+        },
+        C .numbering-is,
+      )
 
-  passed : AllDoubles a → Accepted (factor-checks method n a l work e p) → AcceptedOperands method n a l work e p
+  passed : AllDoubles a → Accepted (factor-checks method n a numbering l work e p) → AcceptedOperands method n a l work e p × Accepted numbering
   unfolding factor-checks
   passed d h = let y = both-accepted _ _ h in let f = both-accepted _ _ (y .0) in operands-passed (f .0) d (f .1) (y .1)
 
-  pub passes : AcceptedOperands method n a l work e p → Accepted (factor-checks method n a l work e p)
-  unfolding factor-checks operand-checks
-  passes O =
+  pub passes : Accepted numbering → AcceptedOperands method n a l work e p → Accepted (factor-checks method n a numbering l work e p)
+  unfolding factor-checks operandChain
+  passes N O =
       let buffer : (wanted len : ℕ) → len ≡ wanted → Accepted (check-buffer wanted len) = λ wanted len e. good-accepted _ _ (length-passes wanted len e) in
       let sized = then-accepted (method-passes method (O .method-from) (O .method-to)) (size-passes n (O .rows-from) (O .rows-to)) in
       let matrix = then-accepted sized (good-accepted _ _ (length-passes (n * n) (length a) (O .matrix .entries))) in
-      let matrices = then-accepted (then-accepted matrix (buffer (n * n) l (O .l-is))) (buffer (n * n) work (O .work-is)) in
+      let matrices = then-accepted (then-accepted (then-accepted matrix N) (buffer (n * n) l (O .l-is))) (buffer (n * n) work (O .work-is)) in
       let operands = then-accepted (then-accepted matrices (buffer n e (O .e-is))) (buffer n p (O .p-is)) in
       then-accepted (then-accepted operands (finite-passes n a (O .rows-from) (O .matrix))) (symmetric-passes n a (O .rows-from) (O .matrix))
 
 pub accepted : AcceptedTheorem
-accepted method n a l work e p d = (λ h. passed method n a l work e p d (record { is = h }), λ O. passes method n a l work e p O .is)
+accepted method n a l work e p d =
+    (λ h. passed method n a Complete l work e p d (record { is = h }) .0, λ O. passes method n a Complete l work e p (record { is = refl }) O .is)
+
+-- ---- numbers
+pub numbers-pass : (n : ℕ) (numbers : List ℕ) → AcceptedNumbers n numbers → Accepted (number-checks n numbers)
+unfolding number-checks
+numbers-pass n numbers N = then-accepted (good-accepted _ _ (length-passes n (length numbers) (N .len))) (distinct-passes numbers (N .distinct))
+
+numbers-passed : (n : ℕ) (numbers : List ℕ) → Accepted (number-checks n numbers) → AcceptedNumbers n numbers
+unfolding number-checks
+numbers-passed n numbers h = let b = both-accepted _ _ h in record { len = numbers-accepted n (length numbers) (b .0); distinct = distinct-accepted numbers (b .1) }
+
+pub accepted-numbered : AcceptedNumberedTheorem
+accepted-numbered method n a numbers l work e p d =
+    let checks = number-checks n numbers in
+    (λ h. let P = passed method n a checks l work e p d (record { is = h }) in (P .0, numbers-passed n numbers (P .1)), λ O. passes method n a checks l work e p (numbers-pass n numbers (O .1)) (O .0) .is)
 
 -- ---- a reloading
 pub reload-accepted : (n : ℕ) (a : List Float) (s : List ℕ) → AcceptedMatrix n a → LoadOrder n s → AcceptedMatrix n (reload n s a)

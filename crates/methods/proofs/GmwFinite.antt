@@ -48,5 +48,5 @@ step-finite n delta beta j k tie s pj pk F e =
     rw step-at-is (divided-finite n j (pivotMatrix n j k (s .c)) (s .d) (pivotMatrix n j k (s .l)) pj (pivot-finite n j k (s .l) pj pk (F (R .before)))
     (stored-row n j (l₂Of n j k s) (c₃Of n delta beta j k s) _ _ (R .test)))
 
-pub steps-finite : (n : ℕ) (delta beta : Float) (a : List Float) → FiniteEntries n a → FiniteRun n (range 0 n (step n delta beta) (start n a))
-steps-finite n delta beta a F = steps-keep n delta beta (λ j s. FiniteRun n s) (record { by-step = step-finite n delta beta; refused = λ j s h R. R }) a (rw started-is (λ e. F))
+pub steps-finite : (numbers : List ℕ) (n : ℕ) (delta beta : Float) (a : List Float) → FiniteEntries n a → FiniteRun n (range 0 n (step numbers n delta beta) (start n a))
+steps-finite numbers n delta beta a F = steps-keep numbers n delta beta (λ j s. FiniteRun n s) (record { by-step = step-finite n delta beta; refused = λ j s h R. R }) a (rw started-is (λ e. F))

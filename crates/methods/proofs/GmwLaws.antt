@@ -81,12 +81,12 @@ pub step-at-is : (n : ℕ) (delta beta : Float) (j m : ℕ) (tie : Bool) (s : Ru
 unfolding stepAt
 step-at-is n delta beta j m tie s = refl
 
-module _ (n : ℕ) (delta beta : Float) (j : ℕ) (s : Run) where
-  pub step-stays : stopped (s .progress) ≡ true → step n delta beta j s ≡ s
+module _ (numbers : List ℕ) (n : ℕ) (delta beta : Float) (j : ℕ) (s : Run) where
+  pub step-stays : stopped (s .progress) ≡ true → step numbers n delta beta j s ≡ s
   unfolding step
   step-stays h = rw h
 
-  pub step-goes : stopped (s .progress) ≡ false → step n delta beta j s ≡ stepAt n delta beta j (pick true (diagonal n (s .c)) j .index) (pick true (diagonal n (s .c)) j .tied) s
+  pub step-goes : stopped (s .progress) ≡ false → step numbers n delta beta j s ≡ stepAt n delta beta j (pick numbers (s .p) true (diagonal n (s .c)) j .index) (pick numbers (s .p) true (diagonal n (s .c)) j .tied) s
   unfolding step
   step-goes h = rw h
 

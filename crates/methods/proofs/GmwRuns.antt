@@ -24,29 +24,29 @@ pub record KeptBySteps (n : ℕ) (delta beta : Float) (P : ℕ → Run → Type 
   pub by-step : (j k : ℕ) (tie : Bool) (s : Run) → j < n → j + k < n → P j s → P (suc j) (stepAt n delta beta j k tie s)
   pub refused : (j : ℕ) (s : Run) → marked (s .progress .refused) ≡ true → P j s → P (suc j) s
 
-module _ (n : ℕ) (delta beta : Float) (P : ℕ → Run → Type 0) (K : KeptBySteps n delta beta P) where
+module _ (numbers : List ℕ) (n : ℕ) (delta beta : Float) (P : ℕ → Run → Type 0) (K : KeptBySteps n delta beta P) where
   -- GMW81 has no phase two, so a run that stopped was refused
   record Kept (j : ℕ) (s : Run) : Type 0 where
     one-phase : s .progress .phase2 ≡ Never
     kept : P j s
 
-  step-keeps : (j : ℕ) (s : Run) → j < n → Kept j s → Kept (suc j) (step n delta beta j s)
+  step-keeps : (j : ℕ) (s : Run) → j < n → Kept j s → Kept (suc j) (step numbers n delta beta j s)
   step-keeps j s pj b = go (is (stopped (s .progress)))
     where
-      go : Is (stopped (s .progress)) → Kept (suc j) (step n delta beta j s)
-      go (holds h) = rw (step-stays n delta beta j s h) (record { one-phase = b .one-phase; kept = K .refused j s (rw (b .one-phase) at h) (b .kept) })
-      go (fails h) = rw (step-goes n delta beta j s h) (record { one-phase = rw step-at-is (b .one-phase); kept = K .by-step j _ _ s pj (diagonal-below true n j (s .c) pj) (b .kept) })
+      go : Is (stopped (s .progress)) → Kept (suc j) (step numbers n delta beta j s)
+      go (holds h) = rw (step-stays numbers n delta beta j s h) (record { one-phase = b .one-phase; kept = K .refused j s (rw (b .one-phase) at h) (b .kept) })
+      go (fails h) = rw (step-goes numbers n delta beta j s h) (record { one-phase = rw step-at-is (b .one-phase); kept = K .by-step j _ _ s pj (diagonal-below numbers (s .p) true n j (s .c) pj) (b .kept) })
 
-  pub steps-keep : (a : List Float) → P 0 (start n a) → P n (range 0 n (step n delta beta) (start n a))
+  pub steps-keep : (a : List Float) → P 0 (start n a) → P n (range 0 n (step numbers n delta beta) (start n a))
   steps-keep a b =
-      range-ind Kept 0 n (step n delta beta) (start n a) (omega arith) (record { one-phase = rw started-is refl; kept = b }) (λ j p q s h. step-keeps j s q h) .kept
+      range-ind Kept 0 n (step numbers n delta beta) (start n a) (omega arith) (record { one-phase = rw started-is refl; kept = b }) (λ j p q s h. step-keeps j s q h) .kept
 
 -- p is a permutation throughout
 permuted-kept : (n : ℕ) (delta beta : Float) → KeptBySteps n delta beta (λ j s. Permuted n (s .p))
 permuted-kept n delta beta = record { by-step = λ j k tie s h hk P. rw step-at-is (pivot-permuted n j k (s .p) hk P); refused = λ j s h P. P }
 
-pub steps-permuted : (n : ℕ) (delta beta : Float) (a : List Float) → Permuted n (range 0 n (step n delta beta) (start n a) .p)
-steps-permuted n delta beta a = steps-keep n delta beta (λ j s. Permuted n (s .p)) (permuted-kept n delta beta) a (rw started-is (identity-permuted n))
+pub steps-permuted : (numbers : List ℕ) (n : ℕ) (delta beta : Float) (a : List Float) → Permuted n (range 0 n (step numbers n delta beta) (start n a) .p)
+steps-permuted numbers n delta beta a = steps-keep numbers n delta beta (λ j s. Permuted n (s .p)) (permuted-kept n delta beta) a (rw started-is (identity-permuted n))
 
 -- ---- the values of a step with the pivot k, named as in stepAt, and what was tested where nothing is refused
 abbrev pub l₂Of : ℕ → ℕ → ℕ → Run → List Float
@@ -68,12 +68,12 @@ pub step-never : (n : ℕ) (delta beta : Float) (j k : ℕ) (tie : Bool) (s : Ru
 step-never n delta beta j k tie s e = goes-on (s .progress .refused) (stepTest n delta beta j k s) j (rw step-at-is at e)
 
 -- ---- the steps of a run, and its end
-pub run-is : (n : ℕ) (a : List Float) → run n a ≡ finish n (stepped n a)
+pub run-is : (numbers : List ℕ) (n : ℕ) (a : List Float) → run numbers n a ≡ finish n (stepped numbers n a)
 unfolding run
-run-is n a = refl
+run-is numbers n a = refl
 
-pub run-permuted : (n : ℕ) (a : List Float) → Permuted n (run n a .p)
-run-permuted n a = rw (run-is n a, finish-order n (stepped n a)) (steps-permuted n _ _ a)
+pub run-permuted : (numbers : List ℕ) (n : ℕ) (a : List Float) → Permuted n (run numbers n a .p)
+run-permuted numbers n a = rw (run-is numbers n a, finish-order n (stepped numbers n a)) (steps-permuted numbers n _ _ a)
 
 pub finish-never : (n : ℕ) (s : Run) → finish n s .progress .refused ≡ Never → s .progress .refused ≡ Never
 finish-never n s = go (is (marked (s .progress .refused)))

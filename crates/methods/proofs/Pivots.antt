@@ -1,12 +1,15 @@
 -- The pivot that a search finds is a row, and pivots keep p a permutation of the rows.
 use mathlib.Core.Path.{_≡_, sym, ap, _∙_}
-use mathlib.Core.Bool.{Bool}
+use mathlib.Core.Bool.{Bool, _&&_}
 use mathlib.Core.List.{List}
 use Prim.Native.Nat.{ℕ, _+_, _≤_, _<_}
 use native.Mathlib.Omega.{arith}
 use lib.ListN.{length, getD, drop, length-drop}
 use lib.Seq.{getD-drop, ext-getD}
+use lib.Dec.{eqb, ltb}
 use lib.Ieee.{Float, nan}
+use Rattle.arithmetic.proofs.Cases.{is, holds, fails}
+use Rattle.arithmetic.proofs.LoopLaws.{range-ind}
 use Rattle.matrix.specs.Matrix.{at}
 use Rattle.matrix.specs.Plain.{AllBelow}
 use Rattle.matrix.specs.Table.{table}
@@ -18,7 +21,7 @@ use Rattle.matrix.proofs.SwapLaws.{transpose, transpose-lt, transpose-twice}
 use Rattle.matrix.proofs.Bijection.{injective}
 use Rattle.methods.specs.Reloading.{LoadOrder}
 use Rattle.methods.specs.Result.{identity}
-use Rattle.methods.specs.Statements.{diagonal, pick, pivotList}
+use Rattle.methods.specs.Statements.{diagonal, tiedWith, lookNumber, smallestNumber, numberAt, pick, pivotList}
 use Rattle.methods.proofs.Moved.{length-pivot, getD-pivot}
 use Rattle.methods.proofs.Reordered.{Order}
 
@@ -26,22 +29,38 @@ pub length-diagonal : (n : ℕ) (m : List Float) → length (diagonal n m) ≡ n
 unfolding diagonal
 length-diagonal n m = length-table n (λ i. at n m i i)
 
-pub pick-below : (magnitude : Bool) (values : List Float) (n j : ℕ) → length values ≡ n → j < n → j + pick magnitude values j .index < n
-unfolding pick
-pick-below magnitude values n j e h = omega (arith, length-drop j values, largest-top magnitude (drop j values) (omega (arith, length-drop j values)) .below)
+pub look-below : (k : ℕ) (tied : ℕ → Bool) (number : ℕ → ℕ) (i best : ℕ) → i < k → best < k → lookNumber tied number i best < k
+look-below k tied number i best h b = elim (is (tied i && ltb (number i) (number best))) [ holds e ↦ rw e h | fails e ↦ rw e b ]
 
-pub diagonal-below : (magnitude : Bool) (n j : ℕ) (m : List Float) → j < n → j + pick magnitude (diagonal n m) j .index < n
-diagonal-below magnitude n j m h = pick-below magnitude (diagonal n m) n j (length-diagonal n m) h
+smallest-below : (number : ℕ → ℕ) (magnitude : Bool) (c : List Float) (first : ℕ) → first < length c → smallestNumber number magnitude c first < length c
+unfolding smallestNumber
+smallest-below number magnitude c first h =
+    let tied = tiedWith magnitude c first in
+    range-ind (λ i best. best < length c) 0 (length c) (lookNumber tied number) first (omega arith) h (λ i p q best b. look-below (length c) tied number i best q b)
 
--- .. as code finds it
-pub picked-below : (magnitude : Bool) (values : List Float) (n j : ℕ) (f : Found) → f ≡ pick magnitude values j → length values ≡ n → j < n → j + f .index < n
-picked-below magnitude values n j f e k h = rw e (pick-below magnitude values n j k h)
+module _ (numbers p : List ℕ) (magnitude : Bool) where
+  pub pick-below : (values : List Float) (n j : ℕ) → length values ≡ n → j < n → j + pick numbers p magnitude values j .index < n
+  unfolding pick
+  pick-below values n j e h =
+      let c = drop j values in
+      let first = largest-top magnitude c (omega (arith, length-drop j values)) .below in
+      elim (is (eqb (length numbers) 0)) [
+        | holds z ↦ rw z (omega (arith, length-drop j values, first))
+        | fails z ↦ rw z (omega (arith, length-drop j values, smallest-below (λ i. numberAt numbers p (j + i)) magnitude c (largest magnitude c .index) first))
+      ]
 
--- the values before j are not looked at
-pub pick-same : (magnitude : Bool) (x y : List Float) (j : ℕ) → length x ≡ length y → ((i : ℕ) → j ≤ i → i < length x → getD x i nan ≡ getD y i nan) → pick magnitude x j ≡ pick magnitude y j
-unfolding pick
-pick-same magnitude x y j e h = ap (largest magnitude) (ext-getD nan (drop j x) (drop j y) (simp length-drop (omega arith))
-    (λ k p. getD-drop j x k nan ∙ h (j + k) (omega arith) (omega (arith, length-drop j x)) ∙ sym (getD-drop j y k nan)))
+  pub diagonal-below : (n j : ℕ) (m : List Float) → j < n → j + pick numbers p magnitude (diagonal n m) j .index < n
+  diagonal-below n j m h = pick-below (diagonal n m) n j (length-diagonal n m) h
+
+  -- .. as code finds it
+  pub picked-below : (values : List Float) (n j : ℕ) (f : Found) → f ≡ pick numbers p magnitude values j → length values ≡ n → j < n → j + f .index < n
+  picked-below values n j f e k h = rw e (pick-below values n j k h)
+
+  -- the values before j are not looked at
+  pub pick-same : (x y : List Float) (j : ℕ) → length x ≡ length y → ((i : ℕ) → j ≤ i → i < length x → getD x i nan ≡ getD y i nan) → pick numbers p magnitude x j ≡ pick numbers p magnitude y j
+  unfolding pick
+  pick-same x y j e h = rw (ext-getD nan (drop j x) (drop j y) (simp length-drop (omega arith))
+      (λ k p. getD-drop j x k nan ∙ h (j + k) (omega arith) (omega (arith, length-drop j x)) ∙ sym (getD-drop j y k nan)))
 
 -- ---- p lists 0 to n - 1, each once
 pub record Permuted (n : ℕ) (p : List ℕ) : Type 0 where

@@ -62,45 +62,46 @@ module _ (v : Variant) (t : Tolerances) (gamma : Float) (n : ℕ) where
   unfolding stepAt pivot
   stepAt-is j k tie s = refl
 
-  pub phaseOneStep-is : (j : ℕ) (s : Run)
-      → phaseOneStep v t gamma n j s
-      ≡ cond (leavesBefore v t gamma n j (s .l)) (leave j s)
-      (stepAt v t gamma n j (pick false (diagonal n (s .l)) j .index) (pick false (diagonal n (s .l)) j .tied) s)
-  unfolding phaseOneStep
-  phaseOneStep-is j s = refl
-
-  pub inPhaseOne-is : (j : ℕ) (s : Run) → inPhaseOne v t gamma n j s ≡ cond (stopped (s .progress)) s (phaseOneStep v t gamma n j s)
-  unfolding inPhaseOne
-  inPhaseOne-is j s = refl
-
-  pub phaseOne-is : (s : Run) → phaseOne v t gamma n s ≡ range 0 n (inPhaseOne v t gamma n) s
-  unfolding phaseOne
-  phaseOne-is s = refl
-
-  pub phaseTwoStep-is : (j : ℕ) (s : Run) → phaseTwoStep v t gamma n j s ≡ cond (marked (s .progress .refused)) s (phaseTwoStepAt v t gamma n j (pick false (s .g) j .index) s)
-  unfolding phaseTwoStep
-  phaseTwoStep-is j s = refl
-
   pub lastPair-is : (s : Run) → lastPair v t gamma n s ≡ addLast n (pairOf v t gamma n (s .l) (s .progress .«delta_prev»)) s
   unfolding lastPair
   lastPair-is s = refl
 
+module _ (v : Variant) (t : Tolerances) (numbers : List ℕ) (gamma : Float) (n : ℕ) where
+  pub phaseOneStep-is : (j : ℕ) (s : Run)
+      → phaseOneStep v t numbers gamma n j s
+      ≡ cond (leavesBefore v t gamma n j (s .l)) (leave j s)
+      (stepAt v t gamma n j (pick numbers (s .p) false (diagonal n (s .l)) j .index) (pick numbers (s .p) false (diagonal n (s .l)) j .tied) s)
+  unfolding phaseOneStep
+  phaseOneStep-is j s = refl
+
+  pub inPhaseOne-is : (j : ℕ) (s : Run) → inPhaseOne v t numbers gamma n j s ≡ cond (stopped (s .progress)) s (phaseOneStep v t numbers gamma n j s)
+  unfolding inPhaseOne
+  inPhaseOne-is j s = refl
+
+  pub phaseOne-is : (s : Run) → phaseOne v t numbers gamma n s ≡ range 0 n (inPhaseOne v t numbers gamma n) s
+  unfolding phaseOne
+  phaseOne-is s = refl
+
+  pub phaseTwoStep-is : (j : ℕ) (s : Run) → phaseTwoStep v t numbers gamma n j s ≡ cond (marked (s .progress .refused)) s (phaseTwoStepAt v t gamma n j (pick numbers (s .p) false (s .g) j .index) s)
+  unfolding phaseTwoStep
+  phaseTwoStep-is j s = refl
+
   pub pairs-is : (k : ℕ) (s : Run)
-      → pairs v t gamma n k s
-      ≡ cond (marked (range k (n - 2) (phaseTwoStep v t gamma n) (begin n k s) .progress .refused)) (range k (n - 2) (phaseTwoStep v t gamma n) (begin n k s))
-      (lastPair v t gamma n (range k (n - 2) (phaseTwoStep v t gamma n) (begin n k s)))
+      → pairs v t numbers gamma n k s
+      ≡ cond (marked (range k (n - 2) (phaseTwoStep v t numbers gamma n) (begin n k s) .progress .refused)) (range k (n - 2) (phaseTwoStep v t numbers gamma n) (begin n k s))
+      (lastPair v t gamma n (range k (n - 2) (phaseTwoStep v t numbers gamma n) (begin n k s)))
   unfolding pairs
   pairs-is k s = refl
 
-  pub phaseTwoFrom-is : (k : ℕ) (s : Run) → phaseTwoFrom v t gamma n k s ≡ cond (eqb k (n - 1)) (lastOne v t gamma n s) (pairs v t gamma n k s)
+  pub phaseTwoFrom-is : (k : ℕ) (s : Run) → phaseTwoFrom v t numbers gamma n k s ≡ cond (eqb k (n - 1)) (lastOne v t gamma n s) (pairs v t numbers gamma n k s)
   unfolding phaseTwoFrom
   phaseTwoFrom-is k s = refl
 
-  pub after-never : (m : Mark) (s : Run) → m ≡ Never → phaseTwoAfter v t gamma n m s ≡ s
+  pub after-never : (m : Mark) (s : Run) → m ≡ Never → phaseTwoAfter v t numbers gamma n m s ≡ s
   unfolding phaseTwoAfter
   after-never m s e = rw e
 
-  pub after-step : (m : Mark) (k : ℕ) (s : Run) → m ≡ Step k → phaseTwoAfter v t gamma n m s ≡ phaseTwoFrom v t gamma n k s
+  pub after-step : (m : Mark) (k : ℕ) (s : Run) → m ≡ Step k → phaseTwoAfter v t numbers gamma n m s ≡ phaseTwoFrom v t numbers gamma n k s
   unfolding phaseTwoAfter
   after-step m k s e = rw e
 
@@ -108,9 +109,9 @@ pub lastOne-is : (v : Variant) (t : Tolerances) (gamma : Float) (n : ℕ) (s : R
 unfolding lastOne
 lastOne-is v t gamma n s = refl
 
-pub run-is : (v : Variant) (t : Tolerances) (n : ℕ) (a : List Float) → run v t n a ≡ phaseTwo v t (diagonalMax n a) n (phaseOne v t (diagonalMax n a) n (start n a))
+pub run-is : (v : Variant) (t : Tolerances) (numbers : List ℕ) (n : ℕ) (a : List Float) → run v t numbers n a ≡ phaseTwo v t numbers (diagonalMax n a) n (phaseOne v t numbers (diagonalMax n a) n (start n a))
 unfolding run
-run-is v t n a = refl
+run-is v t numbers n a = refl
 
 pub rows-of-pair : (v : Variant) (t : Tolerances) (gamma : Float) (n : ℕ) (l : List Float) (delta-prev : Float) (last : Last) → last ≡ pairOf v t gamma n l delta-prev → 2 ≤ n → rowsOf last ≤ n
 unfolding pairOf

@@ -49,7 +49,7 @@ pub record KeptInPhaseTwo (v : Variant) (t : Tolerances) (gamma : Float) (n : �
   pub by-one : (s : Run) → 1 ≤ n → s .progress .phase2 ≡ Step (n - 1) → P s → Q (lastOne v t gamma n s)
 
 -- ---- phase one
-module _ (v : Variant) (t : Tolerances) (gamma : Float) (n : ℕ) (P : Run → Type 0) (K : KeptInPhaseOne v t gamma n P) where
+module _ (v : Variant) (t : Tolerances) (numbers : List ℕ) (gamma : Float) (n : ℕ) (P : Run → Type 0) (K : KeptInPhaseOne v t gamma n P) where
   stepAt-keeps : (j k : ℕ) (tie : Bool) (s : Run) → j < n → j + k < n → s .progress .phase2 ≡ Never → P s → P (stepAt v t gamma n j k tie s)
   stepAt-keeps j k tie s h hk m b = subst P (sym (stepAt-is v t gamma n j k tie s)) (go (is (leavesAfter v t gamma n j (pivotMatrix n j k (s .l)))))
     where
@@ -63,22 +63,22 @@ module _ (v : Variant) (t : Tolerances) (gamma : Float) (n : ℕ) (P : Run → T
       go (holds e) = rw e (K .by-leave j s₁ h (unfold pivot in m) (inr (unfold pivot in e)) b₁)
       go (fails e) = rw e (K .by-factorize j s₁ h (unfold pivot in m) b₁)
 
-  phaseOneStep-keeps : (j : ℕ) (s : Run) → j < n → s .progress .phase2 ≡ Never → P s → P (phaseOneStep v t gamma n j s)
+  phaseOneStep-keeps : (j : ℕ) (s : Run) → j < n → s .progress .phase2 ≡ Never → P s → P (phaseOneStep v t numbers gamma n j s)
   phaseOneStep-keeps j s h m b = go (is (leavesBefore v t gamma n j (s .l)))
     where
-      go : Is (leavesBefore v t gamma n j (s .l)) → P (phaseOneStep v t gamma n j s)
-      go (holds e) = rw (phaseOneStep-is v t gamma n j s, e) (K .by-leave j s h m (inl e) b)
-      go (fails e) = rw (phaseOneStep-is v t gamma n j s, e) (stepAt-keeps j _ _ s h (diagonal-below false n j (s .l) h) m b)
+      go : Is (leavesBefore v t gamma n j (s .l)) → P (phaseOneStep v t numbers gamma n j s)
+      go (holds e) = rw (phaseOneStep-is v t numbers gamma n j s, e) (K .by-leave j s h m (inl e) b)
+      go (fails e) = rw (phaseOneStep-is v t numbers gamma n j s, e) (stepAt-keeps j _ _ s h (diagonal-below numbers (s .p) false n j (s .l) h) m b)
 
-  pub inPhaseOne-keeps : (j : ℕ) (s : Run) → j < n → P s → P (inPhaseOne v t gamma n j s)
+  pub inPhaseOne-keeps : (j : ℕ) (s : Run) → j < n → P s → P (inPhaseOne v t numbers gamma n j s)
   inPhaseOne-keeps j s h b = go (is (stopped (s .progress)))
     where
-      go : Is (stopped (s .progress)) → P (inPhaseOne v t gamma n j s)
-      go (holds e) = rw (inPhaseOne-is v t gamma n j s, e) b
-      go (fails e) = rw (inPhaseOne-is v t gamma n j s, e) (phaseOneStep-keeps j s h (unmarked-never (s .progress .phase2) (or-1 (marked (s .progress .phase2)) (marked (s .progress .refused)) e)) b)
+      go : Is (stopped (s .progress)) → P (inPhaseOne v t numbers gamma n j s)
+      go (holds e) = rw (inPhaseOne-is v t numbers gamma n j s, e) b
+      go (fails e) = rw (inPhaseOne-is v t numbers gamma n j s, e) (phaseOneStep-keeps j s h (unmarked-never (s .progress .phase2) (or-1 (marked (s .progress .phase2)) (marked (s .progress .refused)) e)) b)
 
-  pub phaseOne-keeps : (s : Run) → P s → P (phaseOne v t gamma n s)
-  phaseOne-keeps s b = subst P (sym (phaseOne-is v t gamma n s)) (range-ind (λ i x. P x) 0 n (inPhaseOne v t gamma n) s (omega arith) b (λ i p q x h. inPhaseOne-keeps i x q h))
+  pub phaseOne-keeps : (s : Run) → P s → P (phaseOne v t numbers gamma n s)
+  phaseOne-keeps s b = subst P (sym (phaseOne-is v t numbers gamma n s)) (range-ind (λ i x. P x) 0 n (inPhaseOne v t numbers gamma n) s (omega arith) b (λ i p q x h. inPhaseOne-keeps i x q h))
 
 -- it is left at a step below n
 below-one : (v : Variant) (t : Tolerances) (gamma : Float) (n : ℕ) → KeptInPhaseOne v t gamma n (λ s. Below n (s .progress .phase2))
@@ -89,8 +89,8 @@ below-start : (n : ℕ) (a : List Float) → Below n (start n a .progress .phase
 unfolding start
 below-start n a = never-below n
 
-pub phaseOne-below : (v : Variant) (t : Tolerances) (gamma : Float) (n : ℕ) (a : List Float) → Below n (phaseOne v t gamma n (start n a) .progress .phase2)
-phaseOne-below v t gamma n a = phaseOne-keeps v t gamma n (λ s. Below n (s .progress .phase2)) (below-one v t gamma n) (start n a) (below-start n a)
+pub phaseOne-below : (v : Variant) (t : Tolerances) (numbers : List ℕ) (gamma : Float) (n : ℕ) (a : List Float) → Below n (phaseOne v t numbers gamma n (start n a) .progress .phase2)
+phaseOne-below v t numbers gamma n a = phaseOne-keeps v t numbers gamma n (λ s. Below n (s .progress .phase2)) (below-one v t gamma n) (start n a) (below-start n a)
 
 -- ---- g has n elements throughout
 length-written : {A : Type 0} (a b : ℕ) (f : ℕ → List A → A) (l : List A) → a ≤ b → length (range a b (λ i h. set h i (f i h)) l) ≡ length l
@@ -129,47 +129,47 @@ record Both (n : ℕ) (Q : Run → Type 0) (s : Run) : Type 0 where
   sized : Sized n s
   kept : Q s
 
-module _ (v : Variant) (t : Tolerances) (gamma : Float) (n : ℕ) (P Q : Run → Type 0) (K : KeptInPhaseTwo v t gamma n P Q) where
-  phaseTwoStep-keeps : (j : ℕ) (s : Run) → j < n → Both n Q s → Both n Q (phaseTwoStep v t gamma n j s)
-  phaseTwoStep-keeps j s h b = subst (Both n Q) (sym (phaseTwoStep-is v t gamma n j s)) (cond-keeps (Both n Q) (marked (s .progress .refused)) _ _ b (record {
+module _ (v : Variant) (t : Tolerances) (numbers : List ℕ) (gamma : Float) (n : ℕ) (P Q : Run → Type 0) (K : KeptInPhaseTwo v t gamma n P Q) where
+  phaseTwoStep-keeps : (j : ℕ) (s : Run) → j < n → Both n Q s → Both n Q (phaseTwoStep v t numbers gamma n j s)
+  phaseTwoStep-keeps j s h b = subst (Both n Q) (sym (phaseTwoStep-is v t numbers gamma n j s)) (cond-keeps (Both n Q) (marked (s .progress .refused)) _ _ b (record {
     sized = sized-step v t gamma n j _ s h (b .sized);
-    kept = K .by-step j _ s h (pick-below false (s .g) n j (b .sized) h) (b .kept);
+    kept = K .by-step j _ s h (pick-below numbers (s .p) false (s .g) n j (b .sized) h) (b .kept);
   }))
 
-  steps-keep : (k : ℕ) (s : Run) → Both n Q s → Both n Q (range k (n - 2) (phaseTwoStep v t gamma n) s)
+  steps-keep : (k : ℕ) (s : Run) → Both n Q s → Both n Q (range k (n - 2) (phaseTwoStep v t numbers gamma n) s)
   steps-keep k s b = elim (decLt (n - 2) k) [
-    | yes h ↦ subst (Both n Q) (sym (range-none k (n - 2) (phaseTwoStep v t gamma n) s (omega arith))) b
-    | no h ↦ range-ind (λ i x. Both n Q x) k (n - 2) (phaseTwoStep v t gamma n) s (omega arith) b (λ i p q x r. phaseTwoStep-keeps i x (omega arith) r)
+    | yes h ↦ subst (Both n Q) (sym (range-none k (n - 2) (phaseTwoStep v t numbers gamma n) s (omega arith))) b
+    | no h ↦ range-ind (λ i x. Both n Q x) k (n - 2) (phaseTwoStep v t numbers gamma n) s (omega arith) b (λ i p q x r. phaseTwoStep-keeps i x (omega arith) r)
   ]
 
-  pairs-keep : (k : ℕ) (s : Run) → k < n → 2 ≤ n → Both n Q s → Q (pairs v t gamma n k s)
+  pairs-keep : (k : ℕ) (s : Run) → k < n → 2 ≤ n → Both n Q s → Q (pairs v t numbers gamma n k s)
   pairs-keep k s h h2 b =
-      let s₁ = range k (n - 2) (phaseTwoStep v t gamma n) (begin n k s) in
+      let s₁ = range k (n - 2) (phaseTwoStep v t numbers gamma n) (begin n k s) in
       let b₁ = steps-keep k (begin n k s) (record { sized = sized-begin n k s h (b .sized); kept = K .by-begin k s h (b .kept) }) in
-      subst Q (sym (pairs-is v t gamma n k s)) (cond-keeps Q (marked (s₁ .progress .refused)) _ _ (b₁ .kept) (K .by-pair s₁ h2 (b₁ .kept)))
+      subst Q (sym (pairs-is v t numbers gamma n k s)) (cond-keeps Q (marked (s₁ .progress .refused)) _ _ (b₁ .kept) (K .by-pair s₁ h2 (b₁ .kept)))
 
-  from-keeps : (k : ℕ) (s : Run) → k < n → s .progress .phase2 ≡ Step k → Sized n s → P s → Q (phaseTwoFrom v t gamma n k s)
-  from-keeps k s h m z b = subst Q (sym (phaseTwoFrom-is v t gamma n k s)) (go (is (eqb k (n - 1))))
+  from-keeps : (k : ℕ) (s : Run) → k < n → s .progress .phase2 ≡ Step k → Sized n s → P s → Q (phaseTwoFrom v t numbers gamma n k s)
+  from-keeps k s h m z b = subst Q (sym (phaseTwoFrom-is v t numbers gamma n k s)) (go (is (eqb k (n - 1))))
     where
-      go : Is (eqb k (n - 1)) → Q (cond (eqb k (n - 1)) (lastOne v t gamma n s) (pairs v t gamma n k s))
+      go : Is (eqb k (n - 1)) → Q (cond (eqb k (n - 1)) (lastOne v t gamma n s) (pairs v t numbers gamma n k s))
       go (holds e) = rw e (K .by-one s (omega arith) (m ∙ ap Step (eqb-true k (n - 1) e)) b)
       go (fails e) = rw e (pairs-keep k s h (omega (arith, eqb-false k (n - 1) e)) (record { sized = z; kept = K .after-one s b }))
 
-  after-keeps : (m : Mark) (s : Run) → s .progress .phase2 ≡ m → Below n m → Sized n s → P s → Q (phaseTwoAfter v t gamma n m s)
-  after-keeps Never s e h z b = subst Q (sym (after-never v t gamma n Never s refl)) (K .after-one s b)
-  after-keeps (Step k) s e h z b = subst Q (sym (after-step v t gamma n (Step k) k s refl)) (from-keeps k s (h k refl) e z b)
+  after-keeps : (m : Mark) (s : Run) → s .progress .phase2 ≡ m → Below n m → Sized n s → P s → Q (phaseTwoAfter v t numbers gamma n m s)
+  after-keeps Never s e h z b = subst Q (sym (after-never v t numbers gamma n Never s refl)) (K .after-one s b)
+  after-keeps (Step k) s e h z b = subst Q (sym (after-step v t numbers gamma n (Step k) k s refl)) (from-keeps k s (h k refl) e z b)
 
 -- after phase one from the start
-pub phaseTwo-keeps : (v : Variant) (t : Tolerances) (gamma : Float) (n : ℕ) (a : List Float) (P Q : Run → Type 0) → KeptInPhaseTwo v t gamma n P Q
-    → let s = phaseOne v t gamma n (start n a) in P s → Q (phaseTwo v t gamma n s)
-phaseTwo-keeps v t gamma n a P Q K b =
-    let s = phaseOne v t gamma n (start n a) in
-    after-keeps v t gamma n P Q K (s .progress .phase2) s refl (phaseOne-below v t gamma n a) (phaseOne-keeps v t gamma n (Sized n) (sized-one v t gamma n) (start n a) (sized-start n a)) b
+pub phaseTwo-keeps : (v : Variant) (t : Tolerances) (numbers : List ℕ) (gamma : Float) (n : ℕ) (a : List Float) (P Q : Run → Type 0) → KeptInPhaseTwo v t gamma n P Q
+    → let s = phaseOne v t numbers gamma n (start n a) in P s → Q (phaseTwo v t numbers gamma n s)
+phaseTwo-keeps v t numbers gamma n a P Q K b =
+    let s = phaseOne v t numbers gamma n (start n a) in
+    after-keeps v t numbers gamma n P Q K (s .progress .phase2) s refl (phaseOne-below v t numbers gamma n a) (phaseOne-keeps v t numbers gamma n (Sized n) (sized-one v t gamma n) (start n a) (sized-start n a)) b
 
 -- ---- a whole run
-pub run-keeps : (v : Variant) (t : Tolerances) (n : ℕ) (a : List Float) (P Q : Run → Type 0)
-    → KeptInPhaseOne v t (diagonalMax n a) n P → KeptInPhaseTwo v t (diagonalMax n a) n P Q → P (start n a) → Q (run v t n a)
-run-keeps v t n a P Q one two b = subst Q (sym (run-is v t n a)) (phaseTwo-keeps v t (diagonalMax n a) n a P Q two (phaseOne-keeps v t (diagonalMax n a) n P one (start n a) b))
+pub run-keeps : (v : Variant) (t : Tolerances) (numbers : List ℕ) (n : ℕ) (a : List Float) (P Q : Run → Type 0)
+    → KeptInPhaseOne v t (diagonalMax n a) n P → KeptInPhaseTwo v t (diagonalMax n a) n P Q → P (start n a) → Q (run v t numbers n a)
+run-keeps v t numbers n a P Q one two b = subst Q (sym (run-is v t numbers n a)) (phaseTwo-keeps v t numbers (diagonalMax n a) n a P Q two (phaseOne-keeps v t numbers (diagonalMax n a) n P one (start n a) b))
 
 -- ---- p is a permutation throughout
 permuted-one : (v : Variant) (t : Tolerances) (gamma : Float) (n : ℕ) → KeptInPhaseOne v t gamma n (λ s. Permuted n (s .p))
@@ -190,5 +190,5 @@ permuted-start : (n : ℕ) (a : List Float) → Permuted n (start n a .p)
 unfolding start
 permuted-start n a = identity-permuted n
 
-pub run-permuted : (v : Variant) (t : Tolerances) (n : ℕ) (a : List Float) → Permuted n (run v t n a .p)
-run-permuted v t n a = run-keeps v t n a (λ s. Permuted n (s .p)) (λ s. Permuted n (s .p)) (permuted-one v t (diagonalMax n a) n) (permuted-two v t (diagonalMax n a) n) (permuted-start n a)
+pub run-permuted : (v : Variant) (t : Tolerances) (numbers : List ℕ) (n : ℕ) (a : List Float) → Permuted n (run v t numbers n a .p)
+run-permuted v t numbers n a = run-keeps v t numbers n a (λ s. Permuted n (s .p)) (λ s. Permuted n (s .p)) (permuted-one v t (diagonalMax n a) n) (permuted-two v t (diagonalMax n a) n) (permuted-start n a)

@@ -1,6 +1,7 @@
 -- A run that has stopped stays as it is; one that has not was neither left nor refused.
 use mathlib.Core.Path.{_≡_}
 use mathlib.Core.Bool.{true, false, cond}
+use mathlib.Core.List.{List}
 use Prim.Native.Nat.{ℕ}
 use lib.Ieee.{Float}
 use Rattle.arithmetic.proofs.OrderLaws.{or-1, or-2}
@@ -35,11 +36,11 @@ module _ {S : Type 0} (progress : S → Progress) (next : S → S) (s : S) where
   goes h = rw h
 
 -- .. phase one of SE90 and SE99
-module _ (v : Variant) (t : Tolerances) (gamma : Float) (n j : ℕ) (s : Run) where
-  pub phase-one-stays : stopped (s .progress) ≡ true → inPhaseOne v t gamma n j s ≡ s
+module _ (v : Variant) (t : Tolerances) (numbers : List ℕ) (gamma : Float) (n j : ℕ) (s : Run) where
+  pub phase-one-stays : stopped (s .progress) ≡ true → inPhaseOne v t numbers gamma n j s ≡ s
   unfolding inPhaseOne
-  phase-one-stays h = stays (λ r. r .progress) (phaseOneStep v t gamma n j) s h
+  phase-one-stays h = stays (λ r. r .progress) (phaseOneStep v t numbers gamma n j) s h
 
-  pub phase-one-goes : stopped (s .progress) ≡ false → inPhaseOne v t gamma n j s ≡ phaseOneStep v t gamma n j s
+  pub phase-one-goes : stopped (s .progress) ≡ false → inPhaseOne v t numbers gamma n j s ≡ phaseOneStep v t numbers gamma n j s
   unfolding inPhaseOne
-  phase-one-goes h = goes (λ r. r .progress) (phaseOneStep v t gamma n j) s h
+  phase-one-goes h = goes (λ r. r .progress) (phaseOneStep v t numbers gamma n j) s h

@@ -9,10 +9,11 @@ use Rattle.methods.specs.declared.schnabel_eskow.Tolerances.{Tolerances}
 use Rattle.methods.specs.declared.method.Method.{Method}
 use Rattle.methods.specs.declared.method.Method.the-variants.{Gmw81, Se}
 
-unfoldable pub factor : Method → Tolerances → ℕ → List Float → Result
+-- numbers: the contracts' numbers, in the order in which they are loaded; an empty list where they have none
+unfoldable pub factor : Method → Tolerances → List ℕ → ℕ → List Float → Result
 unfolding mod-cholesky-gmw81 mod-cholesky-se
-factor Gmw81 t n a = mod-cholesky-gmw81 n a
-factor (Se v) t n a = mod-cholesky-se v t n a
+factor Gmw81 t numbers n a = mod-cholesky-gmw81 numbers n a
+factor (Se v) t numbers n a = mod-cholesky-se v t numbers n a
 
 -- tau is EPSILON.cbrt(): the double nearest the real cube root of 2^-52
 abbrev pub tau : Float

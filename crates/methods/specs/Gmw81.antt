@@ -145,11 +145,11 @@ pub record Stepped (n : ℕ) (delta beta : Float) (j max-idx : ℕ) (l c d l' c'
   pub e-is : v .e ≡ v .d ⊖ at n c' j j
   pub pivot-is : v .pivot ≡ max-idx
 
--- index_of_largest_abs(&c.diag().slice(s![j..])); nothing once the run is refused
-unfoldable pub step : ℕ → Float → Float → ℕ → Run → Run
+-- index_of_largest_abs(&c.diag().slice(s![j..])), ties by number where contracts have numbers; nothing once the run is refused
+unfoldable pub step : List ℕ → ℕ → Float → Float → ℕ → Run → Run
 unfolding pick diagonal stepAt
-step n delta beta j s =
-    let f = pick true (diagonal n (s .c)) j in
+step numbers n delta beta j s =
+    let f = pick numbers (s .p) true (diagonal n (s .c)) j in
     let next = stepAt n delta beta j (f .index) (f .tied) s in
     cond (stopped (s .progress)) s next
 
@@ -199,18 +199,18 @@ pub record Finished (n : ℕ) (l c d e : List Float) (p : List ℕ) (r : Progres
 -- ---- a whole run
 
 -- after its steps
-abbrev pub stepped : ℕ → List Float → Run
-stepped n a =
+abbrev pub stepped : List ℕ → ℕ → List Float → Run
+stepped numbers n a =
     let diag-max = diagonalMax n a in
     let off-diag-max = offDiagonalMax n a in
     let delta = deltaOf diag-max off-diag-max in
     let beta = betaOf n diag-max off-diag-max in
-    range 0 n (step n delta beta) (start n a)
+    range 0 n (step numbers n delta beta) (start n a)
 
-unfoldable pub run : ℕ → List Float → Run
+unfoldable pub run : List ℕ → ℕ → List Float → Run
 unfolding range start step finish diagonalMax offDiagonalMax deltaOf betaOf
-run n a = finish n (stepped n a)
+run numbers n a = finish n (stepped numbers n a)
 
-unfoldable pub mod-cholesky-gmw81 : ℕ → List Float → Result
+unfoldable pub mod-cholesky-gmw81 : List ℕ → ℕ → List Float → Result
 unfolding run
-mod-cholesky-gmw81 n a = let s = run n a in handBack n (s .progress) (s .l) (s .e) (s .p)
+mod-cholesky-gmw81 numbers n a = let s = run numbers n a in handBack n (s .progress) (s .l) (s .e) (s .p)

@@ -107,23 +107,23 @@ stepAt v t gamma n j max-idx tie s =
     let next = factorize n j s₁ in
     cond (leavesAfter v t gamma n j (s₁ .l)) (leave j s₁) next
 
-unfoldable pub phaseOneStep : Variant → Tolerances → Float → ℕ → ℕ → Run → Run
+unfoldable pub phaseOneStep : Variant → Tolerances → List ℕ → Float → ℕ → ℕ → Run → Run
 unfolding leavesBefore pick diagonal stepAt
-phaseOneStep v t gamma n j s =
-    let f = pick false (diagonal n (s .l)) j in
+phaseOneStep v t numbers gamma n j s =
+    let f = pick numbers (s .p) false (diagonal n (s .l)) j in
     let next = stepAt v t gamma n j (f .index) (f .tied) s in
     cond (leavesBefore v t gamma n j (s .l)) (leave j s) next
 
 -- nothing once phase one is left or the run refused
-unfoldable pub inPhaseOne : Variant → Tolerances → Float → ℕ → ℕ → Run → Run
+unfoldable pub inPhaseOne : Variant → Tolerances → List ℕ → Float → ℕ → ℕ → Run → Run
 unfolding phaseOneStep
-inPhaseOne v t gamma n j s =
-    let next = phaseOneStep v t gamma n j s in
+inPhaseOne v t numbers gamma n j s =
+    let next = phaseOneStep v t numbers gamma n j s in
     cond (stopped (s .progress)) s next
 
-unfoldable pub phaseOne : Variant → Tolerances → Float → ℕ → Run → Run
+unfoldable pub phaseOne : Variant → Tolerances → List ℕ → Float → ℕ → Run → Run
 unfolding range inPhaseOne
-phaseOne v t gamma n s = range 0 n (inPhaseOne v t gamma n) s
+phaseOne v t numbers gamma n s = range 0 n (inPhaseOne v t numbers gamma n) s
 
 -- ---- phase two
 
@@ -197,10 +197,10 @@ pub record AddedEliminated (n j : ℕ) (normj ej sum : Float) (l g l' g' : List 
   pub ok-is : ok ≡ stepStored n j normj ej sum g' l'
 
 -- index_of_largest(&g.slice(s![j..])); nothing once the run is refused
-unfoldable pub phaseTwoStep : Variant → Tolerances → Float → ℕ → ℕ → Run → Run
+unfoldable pub phaseTwoStep : Variant → Tolerances → List ℕ → Float → ℕ → ℕ → Run → Run
 unfolding pick phaseTwoStepAt
-phaseTwoStep v t gamma n j s =
-    let next = phaseTwoStepAt v t gamma n j (pick false (s .g) j .index) s in
+phaseTwoStep v t numbers gamma n j s =
+    let next = phaseTwoStepAt v t gamma n j (pick numbers (s .p) false (s .g) j .index) s in
     cond (marked (s .progress .refused)) s next
 
 -- ---- the last block
@@ -289,36 +289,36 @@ begin n k s =
     let g = bounds n k (s .l) (s .g) in
     state (s .l) (s .e) g (s .p) (stored (all k n (λ i. finite (getD g i nan))) k (s .progress))
 
-unfoldable pub pairs : Variant → Tolerances → Float → ℕ → ℕ → Run → Run
+unfoldable pub pairs : Variant → Tolerances → List ℕ → Float → ℕ → ℕ → Run → Run
 unfolding range begin phaseTwoStep lastPair
-pairs v t gamma n k s =
-    let s₁ = range k (n - 2) (phaseTwoStep v t gamma n) (begin n k s) in
+pairs v t numbers gamma n k s =
+    let s₁ = range k (n - 2) (phaseTwoStep v t numbers gamma n) (begin n k s) in
     let next = lastPair v t gamma n s₁ in
     cond (marked (s₁ .progress .refused)) s₁ next
 
 -- one row is left where phase one is left at n - 1
-unfoldable pub phaseTwoFrom : Variant → Tolerances → Float → ℕ → ℕ → Run → Run
+unfoldable pub phaseTwoFrom : Variant → Tolerances → List ℕ → Float → ℕ → ℕ → Run → Run
 unfolding pairs lastOne
-phaseTwoFrom v t gamma n k s =
+phaseTwoFrom v t numbers gamma n k s =
     let one-left = lastOne v t gamma n s in
-    let more = pairs v t gamma n k s in
+    let more = pairs v t numbers gamma n k s in
     cond (eqb k (n - 1)) one-left more
 
-unfoldable pub phaseTwoAfter : Variant → Tolerances → Float → ℕ → Mark → Run → Run
+unfoldable pub phaseTwoAfter : Variant → Tolerances → List ℕ → Float → ℕ → Mark → Run → Run
 unfolding phaseTwoFrom
-phaseTwoAfter v t gamma n Never s = s
-phaseTwoAfter v t gamma n (Step k) s = phaseTwoFrom v t gamma n k s
+phaseTwoAfter v t numbers gamma n Never s = s
+phaseTwoAfter v t numbers gamma n (Step k) s = phaseTwoFrom v t numbers gamma n k s
 
-abbrev pub phaseTwo : Variant → Tolerances → Float → ℕ → Run → Run
-phaseTwo v t gamma n s = phaseTwoAfter v t gamma n (s .progress .phase2) s
+abbrev pub phaseTwo : Variant → Tolerances → List ℕ → Float → ℕ → Run → Run
+phaseTwo v t numbers gamma n s = phaseTwoAfter v t numbers gamma n (s .progress .phase2) s
 
 -- ---- a whole run
-unfoldable pub run : Variant → Tolerances → ℕ → List Float → Run
+unfoldable pub run : Variant → Tolerances → List ℕ → ℕ → List Float → Run
 unfolding start phaseOne phaseTwoAfter diagonalMax
-run v t n a = let gamma = diagonalMax n a in phaseTwo v t gamma n (phaseOne v t gamma n (start n a))
+run v t numbers n a = let gamma = diagonalMax n a in phaseTwo v t numbers gamma n (phaseOne v t numbers gamma n (start n a))
 
-unfoldable pub mod-cholesky-se : Variant → Tolerances → ℕ → List Float → Result
+unfoldable pub mod-cholesky-se : Variant → Tolerances → List ℕ → ℕ → List Float → Result
 unfolding run lowerTriangle reorder
-mod-cholesky-se v t n a =
-    let s = run v t n a in
+mod-cholesky-se v t numbers n a =
+    let s = run v t numbers n a in
     handBack n (s .progress) (lowerTriangle n (s .l)) (reorder n (s .p) (s .e)) (s .p)

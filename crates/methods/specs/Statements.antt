@@ -1,17 +1,17 @@
 -- Statements that the methods share, each beside the Rust it stands for.
 use mathlib.Core.List.{List}
-use mathlib.Core.Bool.{Bool, cond}
+use mathlib.Core.Bool.{Bool, cond, _&&_}
 use Prim.Native.Nat.{ℕ, _+_, _-_}
-use lib.ListN.{getD, set, drop}
-use lib.Dec.{eqb}
-use lib.Ieee.{Float, nan, lt}
+use lib.ListN.{length, getD, set, drop}
+use lib.Dec.{eqb, ltb}
+use lib.Ieee.{Float, nan, lt, eq}
 use lib.Ieee.Scale.{finite}
 use Rattle.arithmetic.specs.All.{all}
 use Rattle.arithmetic.specs.Double.{plus-zero, _⊖_, _⊗_, _⊘_, abs}
 use Rattle.arithmetic.specs.Loop.{range}
 use Rattle.arithmetic.specs.Sqrt.{sqrt}
 use Rattle.matrix.specs.Matrix.{at, put}
-use Rattle.matrix.specs.Search.{largest}
+use Rattle.matrix.specs.Search.{key, largest}
 use Rattle.matrix.specs.Table.{table}
 use Rattle.matrix.specs.Swap.{swap, swap-rows, swap-columns}
 use Rattle.matrix.specs.declared.utils.Found.{Found}
@@ -37,10 +37,34 @@ unfoldable pub diagonal : ℕ → List Float → List Float
 unfolding table
 diagonal n m = table n (λ i. at n m i i)
 
--- ---- the pivot search of all three methods and of both phases: index_of_largest(&values.slice(s![j..])), by magnitude in GMW81
-unfoldable pub pick : Bool → List Float → ℕ → Found
-unfolding largest
-pick magnitude values j = largest magnitude (drop j values)
+-- ---- the pivot search of all three methods and of both phases
+
+-- the number of the contract at position t: numbers has one for each row of the matrix loaded, and p[t] is the row that stands there
+abbrev pub numberAt : List ℕ → List ℕ → ℕ → ℕ
+numberAt numbers p t = getD numbers (getD p t 0) 0
+
+-- candidates u and i are equal: +0.0 and -0.0 are
+abbrev pub tiedWith : Bool → List Float → ℕ → ℕ → Bool
+tiedWith magnitude c u i = eq (key magnitude (getD c u nan)) (key magnitude (getD c i nan))
+
+-- one candidate more: it is taken where it is tied too and its number is smaller
+abbrev pub lookNumber : (ℕ → Bool) → (ℕ → ℕ) → ℕ → ℕ → ℕ
+lookNumber tied number i best = cond (tied i && ltb (number i) (number best)) i best
+
+-- document 02's tie rule: of the candidates tied with the first of the largest, the one with the smallest number
+unfoldable pub smallestNumber : (ℕ → ℕ) → Bool → List Float → ℕ → ℕ
+unfolding range key eq
+smallestNumber number magnitude c first = range 0 (length c) (lookNumber (tiedWith magnitude c first) number) first
+
+-- index_of_largest(&values.slice(s![j..])), by magnitude in GMW81: the first of the largest where contracts have no numbers (an empty
+-- list), else the one with the smallest number
+unfoldable pub pick : List ℕ → List ℕ → Bool → List Float → ℕ → Found
+unfolding largest smallestNumber
+pick numbers p magnitude values j =
+    let c = drop j values in
+    let f = largest magnitude c in
+    let smallest = smallestNumber (λ i. numberAt numbers p (j + i)) magnitude c (f .index) in
+    record { index = cond (eqb (length numbers) 0) (f .index) smallest; tied = f .tied }
 
 -- ---- pivots: nothing where max_idx is 0
 

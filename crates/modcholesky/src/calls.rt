@@ -1,9 +1,9 @@
 // The factorization call: its checks, the run, and what it hands back.
 ghost use mathlib.Core.Path.{_≡_};
-ghost use Prim.Native.Nat.{_*_};
+ghost use Prim.Native.Nat.{_*_, _≤_};
 ghost use lib.ListN.{length};
 ghost use Rattle.methods.specs.Result.{handBack, outcomeOf};
-ghost use Rattle.methods.specs.Calls.{call, answered, check-method, operand-checks, factor-checks, factor-call, Operands};
+ghost use Rattle.methods.specs.Calls.{call, answered, check-method, number-checks, operandChain, operand-checks, factor-checks, callWith, factor-call, factor-numbered-call, Operands};
 ghost use Rattle.methods.specs.Factor.{factor, tolerances};
 ghost use Rattle.methods.specs.declared.decomposition.Mark.the-variants.{Never};
 use crate::gmw81;
@@ -30,25 +30,66 @@ pub fn check_method(method: usize) -> Outcome
     Outcome::Complete
 }
 
-// 2, 3, 4 and 5, on the lengths of the matrix and the buffers.
+// 12 and 13. Above 48 rows a call is refused before these, so no long list is searched.
+fn number_checks(n: usize, numbers: &[u32]) -> Outcome
+    ensures { λ r. ⌜ (n ≤ 48 → r ≡ number-checks n (now (numbers .entry))) ⌝ }
+{
+    if 48 < n {
+        return Outcome::Complete;
+    }
+    let outcome = checks::check_numbers(n, numbers.len());
+    if !outcome.complete() {
+        return outcome;
+    }
+    checks::check_distinct(numbers)
+}
+
+// 2 and 3, then 4 of the matrix, what the number checks came to, and 5 of each buffer.
+pub fn operand_chain(
+    method: usize,
+    n: usize,
+    matrix: Outcome,
+    numbering: Outcome,
+    l: Outcome,
+    work: Outcome,
+    e: Outcome,
+    p: Outcome,
+) -> Outcome
+    ensures { λ r. ⌜ r ≡ operandChain method n matrix numbering l work e p ⌝ }
+{
+    check_method(method)
+        .then(checks::check_size(n))
+        .then(matrix)
+        .then(numbering)
+        .then(l)
+        .then(work)
+        .then(e)
+        .then(p)
+}
+
+// .. on the lengths of the matrix and the buffers.
 fn operand_checks(
     method: usize,
     n: usize,
     a: usize,
+    numbering: Outcome,
     l: usize,
     work: usize,
     e: usize,
     p: usize,
 ) -> Outcome
-    ensures { λ r. ⌜ r ≡ operand-checks method n a l work e p ⌝ }
+    ensures { λ r. ⌜ r ≡ operand-checks method n a numbering l work e p ⌝ }
 {
-    check_method(method)
-        .then(checks::check_size(n))
-        .then(checks::check_matrix(n, a))
-        .then(checks::check_square_buffer(n, l))
-        .then(checks::check_square_buffer(n, work))
-        .then(checks::check_buffer(n, e))
-        .then(checks::check_buffer(n, p))
+    operand_chain(
+        method,
+        n,
+        checks::check_matrix(n, a),
+        numbering,
+        checks::check_square_buffer(n, l),
+        checks::check_square_buffer(n, work),
+        checks::check_buffer(n, e),
+        checks::check_buffer(n, p),
+    )
 }
 
 // .. then 7 and 8.
@@ -56,14 +97,15 @@ fn factor_checks(
     method: usize,
     a: &[f64],
     n: usize,
+    numbering: Outcome,
     l: usize,
     work: usize,
     e: usize,
     p: usize,
 ) -> Outcome
-    ensures { λ r. ⌜ r ≡ factor-checks method n (now (a .entry)) l work e p ⌝ }
+    ensures { λ r. ⌜ r ≡ factor-checks method n (now (a .entry)) numbering l work e p ⌝ }
 {
-    let operands = operand_checks(method, n, a.len(), l, work, e, p);
+    let operands = operand_checks(method, n, a.len(), numbering, l, work, e, p);
     let entries = operands.then(checks::check_finite(n, a));
     if !entries.complete() {
         return entries;
@@ -124,18 +166,49 @@ pub fn run(
     method: Method,
     a: &[f64],
     n: usize,
+    numbers: &[u32],
     l: &mut [f64],
     work: &mut [f64],
     e: &mut [f64],
     p: &mut [usize],
 ) -> Decomposition
     requires { ⌜ Operands n (now a) (length (now l)) (length (now work)) (length (now e)) (length (now p)) ⌝ }
-    ensures { λ r. ⌜ call r (now (l .exit)) (now (work .exit)) (now (e .exit)) (now (p .exit)) ≡ answered n (factor method tolerances n (now (a .entry))) ⌝ }
+    ensures { λ r. ⌜ call r (now (l .exit)) (now (work .exit)) (now (e .exit)) (now (p .exit)) ≡ answered n (factor method tolerances (now (numbers .entry)) n (now (a .entry))) ⌝ }
 {
     match method {
-        Method::Gmw81 => gmw81::run(a, n, l, work, e, p),
-        Method::Se(v) => se::run(v, a, n, l, work, e, p),
+        Method::Gmw81 => gmw81::run(a, n, numbers, l, work, e, p),
+        Method::Se(v) => se::run(v, a, n, numbers, l, work, e, p),
     }
+}
+
+// A call of which `numbering` is what its number checks came to.
+fn factor_with(
+    method: usize,
+    a: &[f64],
+    n: usize,
+    numbering: Outcome,
+    numbers: &[u32],
+    l: &mut [f64],
+    work: &mut [f64],
+    e: &mut [f64],
+    p: &mut [usize],
+) -> Decomposition
+    ensures { λ r. ⌜ call r (now (l .exit)) (now (work .exit)) (now (e .exit)) (now (p .exit)) ≡ callWith numbering (now (numbers .entry)) method n (now (a .entry)) (now (l .entry)) (now (work .entry)) (now (e .entry)) (now (p .entry)) ⌝ }
+{
+    let outcome = factor_checks(
+        method,
+        a,
+        n,
+        numbering,
+        l.len(),
+        work.len(),
+        e.len(),
+        p.len(),
+    );
+    if !outcome.complete() {
+        return untouched(outcome);
+    }
+    run(Method::of(method), a, n, numbers, l, work, e, p)
 }
 
 // The factorization call, by document 01's number of the method.
@@ -150,9 +223,23 @@ pub fn factor(
 ) -> Decomposition
     ensures { λ r. ⌜ call r (now (l .exit)) (now (work .exit)) (now (e .exit)) (now (p .exit)) ≡ factor-call method n (now (a .entry)) (now (l .entry)) (now (work .entry)) (now (e .entry)) (now (p .entry)) ⌝ }
 {
-    let outcome = factor_checks(method, a, n, l.len(), work.len(), e.len(), p.len());
-    if !outcome.complete() {
-        return untouched(outcome);
-    }
-    run(Method::of(method), a, n, l, work, e, p)
+    let none: [u32; 1] = [0];
+    factor_with(method, a, n, Outcome::Complete, &none[0..0], l, work, e, p)
+}
+
+// .. with a number for each contract, by which ties are settled.
+pub fn factor_numbered(
+    method: usize,
+    a: &[f64],
+    n: usize,
+    numbers: &[u32],
+    l: &mut [f64],
+    work: &mut [f64],
+    e: &mut [f64],
+    p: &mut [usize],
+) -> Decomposition
+    ensures { λ r. ⌜ call r (now (l .exit)) (now (work .exit)) (now (e .exit)) (now (p .exit)) ≡ factor-numbered-call method n (now (a .entry)) (now (numbers .entry)) (now (l .entry)) (now (work .entry)) (now (e .entry)) (now (p .entry)) ⌝ }
+{
+    let numbering = number_checks(n, numbers);
+    factor_with(method, a, n, numbering, numbers, l, work, e, p)
 }

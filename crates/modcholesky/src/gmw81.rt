@@ -14,6 +14,7 @@ use methods::progress::Progress;
 fn stepped(
     a: &[f64],
     n: usize,
+    numbers: &[u32],
     l: &mut [f64],
     c: &mut [f64],
     d: &mut [f64],
@@ -25,20 +26,21 @@ fn stepped(
     requires { ⌜ Square n (now l) ⌝ }
     requires { ⌜ Square n (now c) ⌝ }
     requires { ⌜ (length (now d) ≡ n) × (length (now diag) ≡ n) × (length (now e) ≡ n) × (length (now p) ≡ n) ⌝ }
-    ensures { λ r. ⌜ state (now (l .exit)) (now (c .exit)) (now (d .exit)) (now (e .exit)) (now (p .exit)) r ≡ stepped n (now (a .entry)) ⌝ }
+    ensures { λ r. ⌜ state (now (l .exit)) (now (c .exit)) (now (d .exit)) (now (e .exit)) (now (p .exit)) r ≡ stepped (now (numbers .entry)) n (now (a .entry)) ⌝ }
 {
     let diag_max = statements::diagonal_max(a, n);
     let off_diag_max = gmw81_steps::off_diagonal_max(a, n);
     let delta = gmw81_steps::delta_of(diag_max, off_diag_max);
     let beta = gmw81_steps::beta_of(n, diag_max, off_diag_max);
     let started = gmw81_steps::begin(a, n, l, c, d, e, p);
-    gmw81_steps::steps(l, c, d, e, p, diag, n, delta, beta, started)
+    gmw81_steps::steps(numbers, l, c, d, e, p, diag, n, delta, beta, started)
 }
 
 // A whole run, with its fillings where it is refused; d and diag are scratch.
 fn run_with(
     a: &[f64],
     n: usize,
+    numbers: &[u32],
     l: &mut [f64],
     c: &mut [f64],
     d: &mut [f64],
@@ -51,9 +53,9 @@ fn run_with(
     requires { ⌜ Square n (now l) ⌝ }
     requires { ⌜ Square n (now c) ⌝ }
     requires { ⌜ (length (now d) ≡ n) × (length (now diag) ≡ n) × (length (now e) ≡ n) × (length (now p) ≡ n) × (0 < n) ⌝ }
-    ensures { λ r. ⌜ call r (now (l .exit)) (now (c .exit)) (now (e .exit)) (now (p .exit)) ≡ answered n (mod-cholesky-gmw81 n (now (a .entry))) ⌝ }
+    ensures { λ r. ⌜ call r (now (l .exit)) (now (c .exit)) (now (e .exit)) (now (p .exit)) ≡ answered n (mod-cholesky-gmw81 (now (numbers .entry)) n (now (a .entry))) ⌝ }
 {
-    let r = stepped(a, n, l, c, d, diag, e, p);
+    let r = stepped(a, n, numbers, l, c, d, diag, e, p);
     let finished = gmw81_steps::finish(l, d, e, p, diag, n, r);
     calls::hand_back(l, c, e, p, n, finished)
 }
@@ -61,17 +63,18 @@ fn run_with(
 pub fn run(
     a: &[f64],
     n: usize,
+    numbers: &[u32],
     l: &mut [f64],
     work: &mut [f64],
     e: &mut [f64],
     p: &mut [usize],
 ) -> Decomposition
     requires { ⌜ Operands n (now a) (length (now l)) (length (now work)) (length (now e)) (length (now p)) ⌝ }
-    ensures { λ r. ⌜ call r (now (l .exit)) (now (work .exit)) (now (e .exit)) (now (p .exit)) ≡ answered n (mod-cholesky-gmw81 n (now (a .entry))) ⌝ }
+    ensures { λ r. ⌜ call r (now (l .exit)) (now (work .exit)) (now (e .exit)) (now (p .exit)) ≡ answered n (mod-cholesky-gmw81 (now (numbers .entry)) n (now (a .entry))) ⌝ }
 {
     let mut d = [0.0; 48];
     let mut diag = [0.0; 48];
-    run_with(a, n, l, work, &mut d[0..n], &mut diag[0..n], e, p)
+    run_with(a, n, numbers, l, work, &mut d[0..n], &mut diag[0..n], e, p)
 }
 
 pub fn mod_cholesky_gmw81(

@@ -21,6 +21,7 @@ fn phases(
     t: Tolerances,
     a: &[f64],
     n: usize,
+    numbers: &[u32],
     l: &mut [f64],
     e: &mut [f64],
     g: &mut [f64],
@@ -30,12 +31,12 @@ fn phases(
     requires { ⌜ Square n (now a) ⌝ }
     requires { ⌜ Square n (now l) ⌝ }
     requires { ⌜ (length (now e) ≡ n) × (length (now g) ≡ n) × (length (now diag) ≡ n) × (length (now p) ≡ n) × Symmetric n (now a) ⌝ }
-    ensures { λ q. ⌜ lowered n (state (now (l .exit)) (now (e .exit)) (now (g .exit)) (now (p .exit)) q) ≡ lowered n (run v t n (now (a .entry))) ⌝ }
+    ensures { λ q. ⌜ lowered n (state (now (l .exit)) (now (e .exit)) (now (g .exit)) (now (p .exit)) q) ≡ lowered n (run v t (now (numbers .entry)) n (now (a .entry))) ⌝ }
 {
     let gamma = statements::diagonal_max(a, n);
     let started = phase_one::begin(a, n, l, e, g, p);
-    let first = phase_one::phase_one(v, t, gamma, l, p, diag, n, started);
-    phase_two::phase_two(v, t, gamma, l, e, g, p, n, first)
+    let first = phase_one::phase_one(v, t, numbers, gamma, l, p, diag, n, started);
+    phase_two::phase_two(v, t, numbers, gamma, l, e, g, p, n, first)
 }
 
 // A whole run, with its fillings where it is refused.
@@ -44,6 +45,7 @@ fn run_with(
     t: Tolerances,
     a: &[f64],
     n: usize,
+    numbers: &[u32],
     l: &mut [f64],
     work: &mut [f64],
     e: &mut [f64],
@@ -55,9 +57,9 @@ fn run_with(
     requires { ⌜ Square n (now l) ⌝ }
     requires { ⌜ Square n (now work) ⌝ }
     requires { ⌜ (length (now e) ≡ n) × (length (now g) ≡ n) × (length (now diag) ≡ n) × (length (now p) ≡ n) × (0 < n) × Symmetric n (now a) ⌝ }
-    ensures { λ r. ⌜ call r (now (l .exit)) (now (work .exit)) (now (e .exit)) (now (p .exit)) ≡ answered n (mod-cholesky-se v t n (now (a .entry))) ⌝ }
+    ensures { λ r. ⌜ call r (now (l .exit)) (now (work .exit)) (now (e .exit)) (now (p .exit)) ≡ answered n (mod-cholesky-se v t (now (numbers .entry)) n (now (a .entry))) ⌝ }
 {
-    let r = phases(v, t, a, n, l, e, g, diag, p);
+    let r = phases(v, t, a, n, numbers, l, e, g, diag, p);
     statements::lower_triangle(l, n);
     statements::reorder(p, e, diag, n);
     calls::hand_back(l, work, e, p, n, r)
@@ -76,16 +78,29 @@ pub fn run(
     v: Variant,
     a: &[f64],
     n: usize,
+    numbers: &[u32],
     l: &mut [f64],
     work: &mut [f64],
     e: &mut [f64],
     p: &mut [usize],
 ) -> Decomposition
     requires { ⌜ Operands n (now a) (length (now l)) (length (now work)) (length (now e)) (length (now p)) ⌝ }
-    ensures { λ r. ⌜ call r (now (l .exit)) (now (work .exit)) (now (e .exit)) (now (p .exit)) ≡ answered n (mod-cholesky-se v tolerances n (now (a .entry))) ⌝ }
+    ensures { λ r. ⌜ call r (now (l .exit)) (now (work .exit)) (now (e .exit)) (now (p .exit)) ≡ answered n (mod-cholesky-se v tolerances (now (numbers .entry)) n (now (a .entry))) ⌝ }
 {
     let mut g = [0.0; 48];
     let mut diag = [0.0; 48];
     let t = tolerances_of(v);
-    run_with(v, t, a, n, l, work, e, &mut g[0..n], &mut diag[0..n], p)
+    run_with(
+        v,
+        t,
+        a,
+        n,
+        numbers,
+        l,
+        work,
+        e,
+        &mut g[0..n],
+        &mut diag[0..n],
+        p,
+    )
 }

@@ -176,6 +176,7 @@ fn factorize(l: &mut [f64], n: usize, j: usize, r: Progress) -> Progress
 fn phase_one_step(
     v: Variant,
     t: Tolerances,
+    numbers: &[u32],
     gamma: f64,
     l: &mut [f64],
     p: &mut [usize],
@@ -186,18 +187,19 @@ fn phase_one_step(
 ) -> Progress
     requires { ⌜ Square n (now l) ⌝ }
     requires { ⌜ (length (now p) ≡ n) × (length (now diag) ≡ n) × (j < n) ⌝ }
-    ensures { λ q. ⌜ ((e g : List Float) → state (mirrored n (now (l .exit))) e g (now (p .exit)) q ≡ phaseOneStep v t gamma n j (state (mirrored n (now (l .entry))) e g (now (p .entry)) r)) ⌝ }
+    ensures { λ q. ⌜ ((e g : List Float) → state (mirrored n (now (l .exit))) e g (now (p .exit)) q ≡ phaseOneStep v t (now (numbers .entry)) gamma n j (state (mirrored n (now (l .entry))) e g (now (p .entry)) r)) ⌝ }
 {
     if leaves_before(v, t, gamma, l, n, j) {
         return r.left(j);
     }
-    let f = statements::search_diagonal(false, l, n, j, diag);
+    let f = statements::search_diagonal(numbers, p, false, l, n, j, diag);
     step_at(v, t, gamma, l, p, n, j, f.index, f.tied, r)
 }
 
 pub fn phase_one(
     v: Variant,
     t: Tolerances,
+    numbers: &[u32],
     gamma: f64,
     l: &mut [f64],
     p: &mut [usize],
@@ -207,14 +209,14 @@ pub fn phase_one(
 ) -> Progress
     requires { ⌜ Square n (now l) ⌝ }
     requires { ⌜ (length (now p) ≡ n) × (length (now diag) ≡ n) ⌝ }
-    ensures { λ q. ⌜ ((e g : List Float) → state (mirrored n (now (l .exit))) e g (now (p .exit)) q ≡ phaseOne v t gamma n (state (mirrored n (now (l .entry))) e g (now (p .entry)) r)) ⌝ }
+    ensures { λ q. ⌜ ((e g : List Float) → state (mirrored n (now (l .exit))) e g (now (p .exit)) q ≡ phaseOne v t (now (numbers .entry)) gamma n (state (mirrored n (now (l .entry))) e g (now (p .entry)) r)) ⌝ }
 {
     let mut q = r;
     for j in 0..n {
         if q.stopped() {
             return q;
         }
-        q = phase_one_step(v, t, gamma, l, p, diag, n, j, q);
+        q = phase_one_step(v, t, numbers, gamma, l, p, diag, n, j, q);
     }
     q
 }

@@ -23,7 +23,7 @@ use Rattle.methods.specs.declared.schnabel_eskow.Tolerances.{Tolerances}
 use Rattle.methods.specs.declared.decomposition.Mark.{Mark}
 use Rattle.methods.specs.declared.decomposition.Mark.the-variants.{Never, Step}
 use Rattle.answer_record.specs.AnswerRecord.{longestAnswer}
-use Rattle.record.specs.MatrixRecord.{request, entriesOf, matrixOf, byte-checks, record-checks}
+use Rattle.record.specs.MatrixRecord.{request, contractsOf, entriesOf, numbersOf, matrixOf, byte-checks, record-checks}
 use Rattle.record.specs.Record.{refused, resultOf, resultTo}
 use Rattle.arithmetic.proofs.Cases.{is, holds, fails}
 use Rattle.record.proofs.Accepted.{room-accepted}
@@ -35,7 +35,7 @@ unfolding _then_
 stops o rest h = rw h
 
 module _ (b : List ℕ) where
-  pub answer-complete : complete (record-checks b longestAnswer) ≡ true → resultOf b ≡ factor (methodOf (request b .method)) tolerances (request b .size) (matrixOf b)
+  pub answer-complete : complete (record-checks b longestAnswer) ≡ true → resultOf b ≡ factor (methodOf (request b .method)) tolerances (numbersOf b) (request b .size) (matrixOf b)
   unfolding resultOf
   answer-complete h = rw h
 
@@ -47,7 +47,7 @@ module _ (b : List ℕ) where
   refused-outcome h = rw (answer-refused h)
 
   -- where the checks on bytes pass, check 8 and the run are left
-  pub answer-request : complete (byte-checks b longestAnswer) ≡ true → resultOf b ≡ resultTo (request b) (entriesOf b)
+  pub answer-request : complete (byte-checks b longestAnswer) ≡ true → resultOf b ≡ resultTo (request b) (contractsOf b) (entriesOf b)
   unfolding resultOf resultTo
   answer-request h = rw (← goes-on (record { is = h }) refl)
 
@@ -58,7 +58,7 @@ module _ (b : List ℕ) where
 -- a buffer of another length is refused, by check 5 or an earlier one
 pub other-room : (b : List ℕ) (room : ℕ) → (room ≡ longestAnswer → ⊥) → complete (byte-checks b room) ≡ false
 other-room b room h = elim (is (complete (byte-checks b room))) [
-  | holds c ↦ absurd (h (room-accepted (request b) room (entriesOf b) (bytes-parts b room (record { is = c }))))
+  | holds c ↦ absurd (h (room-accepted (request b) room (contractsOf b) (entriesOf b) (bytes-parts b room (record { is = c }))))
   | fails c ↦ c
 ]
 
@@ -71,15 +71,15 @@ outcome-number : (refused : Mark) → (number (outcomeOf refused) ≡ 0) ⊎ (nu
 outcome-number Never = inl refl
 outcome-number (Step j) = inr refl
 
-pub factor-number : (method : Method) (t : Tolerances) (n : ℕ) (a : List Float)
-    → let o = factor method t n a .decomposition .outcome in (number o ≡ 0) ⊎ (number o ≡ 9)
+pub factor-number : (method : Method) (t : Tolerances) (numbers : List ℕ) (n : ℕ) (a : List Float)
+    → let o = factor method t numbers n a .decomposition .outcome in (number o ≡ 0) ⊎ (number o ≡ 9)
 unfolding factor mod-cholesky-gmw81 mod-cholesky-se
-factor-number Gmw81 t n a = outcome-number (gmw.run n a .progress .refused)
-factor-number (Se v) t n a = outcome-number (schnabel.run v t n a .progress .refused)
+factor-number Gmw81 t numbers n a = outcome-number (gmw.run numbers n a .progress .refused)
+factor-number (Se v) t numbers n a = outcome-number (schnabel.run v t numbers n a .progress .refused)
 
 module _ (b : List ℕ) where
   pub accepted-number : complete (record-checks b longestAnswer) ≡ true → let o = resultOf b .decomposition .outcome in (number o ≡ 0) ⊎ (number o ≡ 9)
-  accepted-number h = rw (answer-complete b h) (factor-number (methodOf (request b .method)) tolerances (request b .size) (matrixOf b))
+  accepted-number h = rw (answer-complete b h) (factor-number (methodOf (request b .method)) tolerances (numbersOf b) (request b .size) (matrixOf b))
 
   pub refused-number : complete (record-checks b longestAnswer) ≡ false → let o = resultOf b .decomposition .outcome in (1 ≤ number o) × (number o ≡ 9 → ⊥)
   refused-number h = rw (refused-outcome b h) (omega (arith, eqb-false (number (record-checks b longestAnswer)) 0 h), eqb-false (number (record-checks b longestAnswer)) 9 (not-true _ (checks-early b longestAnswer .number-is)))

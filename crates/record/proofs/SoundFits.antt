@@ -26,9 +26,9 @@ use Rattle.methods.specs.declared.decomposition.Mark.{Mark}
 use Rattle.methods.specs.declared.decomposition.Mark.the-variants.{Never, Step}
 use Rattle.results.specs.Results.{Sound, MarksBelow}
 use Rattle.results.proofs.Theorem.{results}
-use Rattle.encoding.specs.Bytes.{doubles}
+use Rattle.encoding.specs.Bytes.{numbers, doubles}
 use Rattle.encoding.proofs.Checked.{each-entry}
-use Rattle.record.specs.MatrixRecord.{request, entriesOf, request-checks, byte-checks}
+use Rattle.record.specs.MatrixRecord.{request, contractsOf, entriesOf, request-checks, byte-checks}
 use Rattle.answer_record.specs.AnswerRecord.{longestAnswer}
 use Rattle.record.specs.Record.{refused, resultOf, resultTo, answer}
 use Rattle.answer_record.specs.Writing.{PlaceFits, Fits}
@@ -55,11 +55,11 @@ mark-placed : (n : ℕ) (m : Mark) → n ≤ 48 → ((j : ℕ) → outcomeOf m �
 mark-placed n Never h s = (omega arith, omega arith)
 mark-placed n (Step j) h s = (omega (arith, s j refl), omega arith)
 
-run-placed : (method : Method) (t : Tolerances) (n : ℕ) (a : List Float) → n ≤ 48 → MarksBelow n (factor method t n a .decomposition)
-    → PlaceFits (place (factor method t n a .decomposition .outcome))
+run-placed : (method : Method) (t : Tolerances) (ns : List ℕ) (n : ℕ) (a : List Float) → n ≤ 48 → MarksBelow n (factor method t ns n a .decomposition)
+    → PlaceFits (place (factor method t ns n a .decomposition .outcome))
 unfolding factor mod-cholesky-gmw81 mod-cholesky-se
-run-placed Gmw81 t n a h s = mark-placed n (gmw.run n a .progress .refused) h (s .refused-below)
-run-placed (Se v) t n a h s = mark-placed n (schnabel.run v t n a .progress .refused) h (s .refused-below)
+run-placed Gmw81 t ns n a h s = mark-placed n (gmw.run ns n a .progress .refused) h (s .refused-below)
+run-placed (Se v) t ns n a h s = mark-placed n (schnabel.run v t ns n a .progress .refused) h (s .refused-below)
 
 refused-fits : (o : Outcome) → PlaceFits (place o) → Fits (refused o)
 refused-fits o t = record {
@@ -76,21 +76,22 @@ refused-fits o t = record {
     never : (j : ℕ) → _≡_ {A = Mark} Never (Step j) → ⊥
     never j e = let z : _≡_ {A = ℕ} 0 1 = cc in omega arith
 
-module _ (r : Request) (room : ℕ) (entries : List ℕ) (h : Accepted (request-checks r room entries)) where
-  run-fits : Accepted (check-symmetric (r .size) (doubles entries)) → Fits (factor (methodOf (r .method)) tolerances (r .size) (doubles entries))
+module _ (r : Request) (room : ℕ) (contracts entries : List ℕ) (h : Accepted (request-checks r room contracts entries)) where
+  run-fits : Accepted (check-symmetric (r .size) (doubles entries)) → Fits (factor (methodOf (r .method)) tolerances (numbers contracts) (r .size) (doubles entries))
   run-fits k =
       let n = r .size in
       let a = doubles entries in
+      let ns = numbers contracts in
       let method = methodOf (r .method) in
-      let L = request-accepted r room entries h .0 in
-      let s = results method n a (L .some) (matrix-accepted r room entries h k) in
-      sound-fits n (factor method tolerances n a) (L .some) (L .square .small) s (run-placed method tolerances n a (L .square .small) (s .marks))
+      let L = request-accepted r room contracts entries h .0 in
+      let s = results method ns n a (L .some) (matrix-accepted r room contracts entries h k) in
+      sound-fits n (factor method tolerances ns n a) (L .some) (L .square .small) s (run-placed method tolerances ns n a (L .square .small) (s .marks))
 
-  pub request-fits : Fits (resultTo r entries)
+  pub request-fits : Fits (resultTo r contracts entries)
   unfolding resultTo
   request-fits = elim (is (complete (check-symmetric (r .size) (doubles entries)))) [
     | holds c ↦ rw c (run-fits (record { is = c }))
-    | fails c ↦ rw c (refused-fits (check-symmetric (r .size) (doubles entries)) (symmetric-early r room entries (request-accepted r room entries h .0) .placed))
+    | fails c ↦ rw c (refused-fits (check-symmetric (r .size) (doubles entries)) (symmetric-early r room contracts entries (request-accepted r room contracts entries h .0) .placed))
   ]
 
 module _ (b : List ℕ) where
@@ -99,7 +100,7 @@ module _ (b : List ℕ) where
 
   result-fits : Fits (resultOf b)
   result-fits = elim (is (complete (byte-checks b longestAnswer))) [
-    | holds c ↦ rw (answer-request b c) (request-fits (request b) longestAnswer (entriesOf b) (bytes-parts b longestAnswer (record { is = c })))
+    | holds c ↦ rw (answer-request b c) (request-fits (request b) longestAnswer (contractsOf b) (entriesOf b) (bytes-parts b longestAnswer (record { is = c })))
     | fails c ↦ rw (bytes-refused b c) bytes-fit
   ]
 

@@ -1,7 +1,7 @@
 -- A walk over a record's fields: what one step does, and at which field a walk stops.
 use mathlib.Core.Path.{_≡_, refl, sym, ap, _∙_}
 use mathlib.Core.List.{List, [], _∷_}
-use mathlib.Core.Bool.{true, false}
+use mathlib.Core.Bool.{true, false, true≢false}
 use Prim.Native.Nat.{ℕ, suc, _+_, _-_, _*_, _≤_, _<_}
 use native.Mathlib.Omega.{arith}
 use lib.ListN.{length, getD, take, drop, length-drop, drop-of-length-le}
@@ -12,12 +12,12 @@ use Rattle.arithmetic.specs.Loop.{range, times}
 use Rattle.arithmetic.proofs.Cases.{same-tests, is, holds, fails}
 use Rattle.encoding.specs.Bytes.{lowFirst}
 use Rattle.answer_record.specs.Field.{field}
-use Rattle.record.specs.Cursor.{expect, after, nothingDue, noted, partAt, cut, passField, walk, walkStart}
+use Rattle.record.specs.Cursor.{expect, after, nothingDue, noted, partAt, cut, passField, walk, nothing, walkStart}
 use Rattle.record.specs.declared.cursor.Cursor.{Cursor}
 use Rattle.record.specs.declared.cursor.Part.{Part}
 use Rattle.record.specs.declared.cursor.Parts.{Parts}
 use Rattle.record.specs.declared.cursor.Stage.{Stage}
-use Rattle.record.specs.declared.cursor.Stage.the-variants.{SizeDue, MethodDue, EntriesDue, Done, PastEnd, WrongTag}
+use Rattle.record.specs.declared.cursor.Stage.the-variants.{SizeDue, MethodDue, NumbersOrEntriesDue, EntriesDue, Done, PastEnd, WrongTag}
 use Rattle.encoding.proofs.Numbers.{take-more}
 
 -- ---- a field's header
@@ -75,8 +75,8 @@ module _ (b : List ℕ) (start len : ℕ) where
   pub part-whole : take (start + len - start) (drop start b) ≡ take len (drop start b)
   part-whole = let e : start + len - start ≡ len = omega arith in rw e
 
--- ---- a walk over the three fields
-pub walk-steps : (b : List ℕ) → walk b ≡ passField b 2 (passField b 1 (passField b 0 walkStart))
+-- ---- a walk over at most four fields
+pub walk-steps : (b : List ℕ) → walk b ≡ passField b 3 (passField b 2 (passField b 1 (passField b 0 walkStart)))
 unfolding walk range times
 walk-steps b = refl
 
@@ -84,6 +84,7 @@ walk-steps b = refl
 abbrev pub stoppedAt : Stage → ℕ
 stoppedAt SizeDue = 0
 stoppedAt MethodDue = 0
+stoppedAt NumbersOrEntriesDue = 0
 stoppedAt EntriesDue = 0
 stoppedAt Done = 0
 stoppedAt (PastEnd field) = field
@@ -94,7 +95,8 @@ expect-stops k tag due next h = elim (is (eqb tag due)) [ holds e ↦ rw e h | f
 
 after-stops : (k : ℕ) (s : Stage) (tag : ℕ) → stoppedAt s ≤ k → stoppedAt (after k s tag) ≤ k
 after-stops k SizeDue tag h = expect-stops k tag 0x01 MethodDue h
-after-stops k MethodDue tag h = expect-stops k tag 0x02 EntriesDue h
+after-stops k MethodDue tag h = expect-stops k tag 0x02 NumbersOrEntriesDue h
+after-stops k NumbersOrEntriesDue tag h = elim (is (eqb tag 0x04)) [ holds e ↦ rw e h | fails e ↦ rw e (expect-stops k tag 0x03 Done h) ]
 after-stops k EntriesDue tag h = expect-stops k tag 0x03 Done h
 after-stops k Done tag h = h
 after-stops k (PastEnd field) tag h = h
@@ -109,8 +111,30 @@ step-at-most b k c h = elim (is (nothingDue (c .stage))) [
   ]
 ]
 
-pub walk-at-most : (b : List ℕ) → stoppedAt (walk b .stage) ≤ 2
+pub walk-at-most : (b : List ℕ) → stoppedAt (walk b .stage) ≤ 3
 walk-at-most b =
-    let one = step-at-most b 0 walkStart (omega arith) in
-    let two = step-at-most b 1 (passField b 0 walkStart) (omega (arith, one)) in
-    rw (walk-steps b) (step-at-most b 2 (passField b 1 (passField b 0 walkStart)) (omega (arith, two)))
+    let one = passField b 0 walkStart in
+    let two = passField b 1 one in
+    let first = step-at-most b 0 walkStart (omega arith) in
+    let second = step-at-most b 1 one (omega (arith, first)) in
+    let third = step-at-most b 2 two (omega (arith, second)) in
+    rw (walk-steps b) (step-at-most b 3 (passField b 2 two) (omega (arith, third)))
+
+-- ---- without a field 04 no part is noted for one
+abbrev Unnumbered : Parts → Type 0
+Unnumbered parts = parts .numbered ≡ false → parts .numbers ≡ nothing
+
+noted-none : (tag : ℕ) (part : Part) (parts : Parts) → Unnumbered parts → Unnumbered (noted tag part parts)
+noted-none tag part parts h = elim (is (eqb tag 0x04)) [ holds e ↦ rw e (λ f. absurd (true≢false f)) | fails e ↦ rw e h ]
+
+step-none : (b : List ℕ) (k : ℕ) (c : Cursor) → Unnumbered (c .parts) → Unnumbered (passField b k c .parts)
+step-none b k c h = elim (is (nothingDue (c .stage))) [
+  | holds n ↦ rw (step-stays b k c n) h
+  | fails n ↦ elim (is (cut b (c .at))) [
+    | holds e ↦ rw (step-stops b k c n e) h
+    | fails e ↦ rw (step-passes b k c n e) (noted-none (getD b (c .at) 0) (partAt b (c .at)) (c .parts) h)
+  ]
+]
+
+pub walk-none : (b : List ℕ) → Unnumbered (walk b .parts)
+walk-none b = rw (walk-steps b) (step-none b 3 _ (step-none b 2 _ (step-none b 1 _ (step-none b 0 walkStart (λ _. refl)))))

@@ -1,6 +1,6 @@
 -- The answer to a record: every list of bytes has one.
 use mathlib.Core.List.{List, []}
-use mathlib.Core.Bool.{cond}
+use mathlib.Core.Bool.{false, cond}
 use mathlib.Core.Path.{_≡_}
 use Prim.Native.Nat.{ℕ, _*_, _<_, _≤_}
 use lib.Dec.{eqb}
@@ -14,8 +14,8 @@ use Rattle.methods.specs.Result.{Result}
 use Rattle.methods.specs.Factor.{factor, tolerances}
 use Rattle.methods.specs.Calls.{Call, methodOf, answered, untouched}
 use Rattle.methods.specs.declared.decomposition.Mark.the-variants.{Never}
-use Rattle.encoding.specs.Bytes.{doubles}
-use Rattle.record.specs.MatrixRecord.{request, matrixOf, record-checks}
+use Rattle.encoding.specs.Bytes.{numbers, doubles}
+use Rattle.record.specs.MatrixRecord.{request, numbersOf, matrixOf, record-checks}
 use Rattle.answer_record.specs.AnswerRecord.{longestAnswer, answer-record}
 use Rattle.encoding.specs.Writing.{over}
 use Rattle.answer_record.specs.Writing.{Front}
@@ -28,9 +28,9 @@ refused outcome = record { decomposition = record { outcome = outcome; tied = Ne
 
 -- what a record's checks and run end with, where the answer's buffer has its own length
 unfoldable pub resultOf : List ℕ → Result
-unfolding record-checks request factor doubles
+unfolding record-checks request factor numbers doubles
 resultOf b = let checks = record-checks b longestAnswer in
-    cond (complete checks) (factor (methodOf (request b .method)) tolerances (request b .size) (matrixOf b)) (refused checks)
+    cond (complete checks) (factor (methodOf (request b .method)) tolerances (numbersOf b) (request b .size) (matrixOf b)) (refused checks)
 
 unfoldable pub answer : List ℕ → List ℕ
 unfolding resultOf answer-record
@@ -57,12 +57,16 @@ record-call b out =
     (recordCall (record-checks b (length out)) 0 out)
 
 -- ---- a request that passed the checks on bytes: check 8, then the run
-unfoldable pub resultTo : Request → List ℕ → Result
-unfolding factor doubles
-resultTo r entries =
+unfoldable pub resultTo : Request → List ℕ → List ℕ → Result
+unfolding factor numbers doubles
+resultTo r contracts entries =
     let a = doubles entries in
     let symmetric = check-symmetric (r .size) a in
-    cond (complete symmetric) (factor (methodOf (r .method)) tolerances (r .size) a) (refused symmetric)
+    cond (complete symmetric) (factor (methodOf (r .method)) tolerances (numbers contracts) (r .size) a) (refused symmetric)
+
+-- without a field 04 there are no bytes of one
+abbrev pub OwnContracts : Request → List ℕ → Type 0
+OwnContracts r contracts = r .numbered ≡ false → length contracts ≡ 0
 
 -- the answer to a result stands at the front of the buffer, and its length and outcome are handed back
 pub record Answers (t : Result) (out out′ : List ℕ) (r : RecordAnswer) : Type 0 where
@@ -84,8 +88,8 @@ pub record Lent (n : ℕ) (a : List Float) (l work e p : ℕ) : Type 0 where
   pub p-is : p ≡ n
 
 -- .. and what it does to the buffers
-unfoldable pub requestCall : Request → List Float → List Float → List Float → List Float → List ℕ → Call
+unfoldable pub requestCall : Request → List ℕ → List Float → List Float → List Float → List Float → List ℕ → Call
 unfolding factor
-requestCall r a l work e p =
+requestCall r contractNumbers a l work e p =
     let symmetric = check-symmetric (r .size) a in
-    cond (complete symmetric) (answered (r .size) (factor (methodOf (r .method)) tolerances (r .size) a)) (untouched symmetric l work e p)
+    cond (complete symmetric) (answered (r .size) (factor (methodOf (r .method)) tolerances contractNumbers (r .size) a)) (untouched symmetric l work e p)

@@ -2,13 +2,15 @@
 ghost use mathlib.Core.Path.{_≡_};
 ghost use Prim.Native.Nat.{_-_, _≤_, _<_};
 ghost use lib.ListN.{length, getD};
-ghost use Rattle.record.specs.Cursor.{expect, after, nothingDue, noted, partAt, cut, contentAt, passField, walk};
+ghost use Rattle.record.specs.Cursor.{expect, after, nothingDue, notedIf, foundIf, noted, partAt, cut, contentAt, passField, walk};
 use encoding::read::whole;
 
 // Which field is due, or how the walk ended: a field's index counts those that stand in the record.
 pub enum Stage {
     SizeDue,
     MethodDue,
+    // 04 or 03.
+    NumbersOrEntriesDue,
     EntriesDue,
     Done,
     // The header or content of a field runs past the end.
@@ -27,6 +29,9 @@ pub struct Part {
 pub struct Parts {
     pub size: Part,
     pub method: Part,
+    // Whether a field 04 was found.
+    pub numbered: bool,
+    pub numbers: Part,
     pub entries: Part,
 }
 
@@ -38,7 +43,7 @@ pub struct Cursor {
 }
 
 // The most fields that a record has.
-const MOST_FIELDS: usize = 3;
+const MOST_FIELDS: usize = 4;
 
 // 0 past the end.
 pub fn byte_at(b: &[u8], at: usize) -> usize
@@ -98,7 +103,13 @@ fn after(field: usize, stage: Stage, tag: usize) -> Stage
 {
     match stage {
         Stage::SizeDue => expect(field, tag, 0x01, Stage::MethodDue),
-        Stage::MethodDue => expect(field, tag, 0x02, Stage::EntriesDue),
+        Stage::MethodDue => expect(field, tag, 0x02, Stage::NumbersOrEntriesDue),
+        Stage::NumbersOrEntriesDue => {
+            if tag == 0x04 {
+                return Stage::EntriesDue;
+            }
+            expect(field, tag, 0x03, Stage::Done)
+        }
         Stage::EntriesDue => expect(field, tag, 0x03, Stage::Done),
         Stage::Done => stage,
         Stage::PastEnd { field: _ } => stage,
@@ -112,6 +123,7 @@ fn nothing_due(stage: Stage) -> bool
     match stage {
         Stage::SizeDue => false,
         Stage::MethodDue => false,
+        Stage::NumbersOrEntriesDue => false,
         Stage::EntriesDue => false,
         Stage::Done => true,
         Stage::PastEnd { field: _ } => true,
@@ -119,34 +131,40 @@ fn nothing_due(stage: Stage) -> bool
     }
 }
 
+// The part found where the field's tag is this one, else what was noted before.
+fn noted_if(tag: usize, due: usize, part: Part, before: Part) -> Part
+    ensures { λ r. ⌜ r ≡ notedIf tag due part before ⌝ }
+{
+    if tag == due {
+        return part;
+    }
+    before
+}
+
+// Whether a field with this tag was found.
+fn found_if(tag: usize, due: usize, before: bool) -> bool
+    ensures { λ r. ⌜ r ≡ foundIf tag due before ⌝ }
+{
+    if tag == due {
+        return true;
+    }
+    before
+}
+
 fn noted(parts: Parts, tag: usize, part: Part) -> Parts
     ensures { λ r. ⌜ r ≡ noted tag part parts ⌝ }
 {
     let size = parts.size;
     let method = parts.method;
+    let numbers = parts.numbers;
     let entries = parts.entries;
-    if tag == 0x01 {
-        return Parts {
-            size: part,
-            method,
-            entries,
-        };
+    Parts {
+        size: noted_if(tag, 0x01, part, size),
+        method: noted_if(tag, 0x02, part, method),
+        numbered: found_if(tag, 0x04, parts.numbered),
+        numbers: noted_if(tag, 0x04, part, numbers),
+        entries: noted_if(tag, 0x03, part, entries),
     }
-    if tag == 0x02 {
-        return Parts {
-            size,
-            method: part,
-            entries,
-        };
-    }
-    if tag == 0x03 {
-        return Parts {
-            size,
-            method,
-            entries: part,
-        };
-    }
-    parts
 }
 
 // Passes the field with this index.
@@ -185,6 +203,8 @@ pub fn walk(b: &[u8]) -> Cursor
         parts: Parts {
             size: none,
             method: none,
+            numbered: false,
+            numbers: none,
             entries: none,
         },
     };

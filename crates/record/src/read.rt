@@ -1,6 +1,6 @@
 // Reading a matrix record: its request, and the checks made on bytes.
 ghost use mathlib.Core.Path.{_≡_};
-ghost use Rattle.record.specs.MatrixRecord.{requestOf, check-longest, check-walk, check-exact, check-record, request-checks};
+ghost use Rattle.record.specs.MatrixRecord.{requestOf, check-longest, check-walk, check-exact, check-record, request-number-checks, request-checks};
 use crate::cursor::Cursor;
 use crate::cursor::Part;
 use crate::cursor::Stage;
@@ -9,16 +9,19 @@ use answer_record::write::LONGEST_ANSWER;
 use arithmetic::outcome::Outcome;
 use encoding::checks::check_entries;
 use encoding::checks::check_finite;
+use encoding::checks::number_byte_checks;
 use matrix::checks::check_buffer;
 use matrix::checks::check_size;
 use modcholesky::calls::check_method;
 
 // ---- what a record asks for
 
-// Its size, its method's number, and where its entries stand.
+// Its size, its method's number, whether it has contract numbers, and where these and its entries stand.
 pub struct Request {
     pub size: usize,
     pub method: usize,
+    pub numbered: bool,
+    pub numbers: Part,
     pub entries: Part,
 }
 
@@ -29,17 +32,20 @@ pub fn read_request(b: &[u8], c: Cursor) -> Request
     let parts = c.parts;
     let size = parts.size;
     let method = parts.method;
+    let numbers = parts.numbers;
     let entries = parts.entries;
     Request {
         size: byte_at(b, size.start),
         method: byte_at(b, method.start),
+        numbered: parts.numbered,
+        numbers,
         entries,
     }
 }
 
 // ---- 1, 10 and 11
 
-const LONGEST_RECORD: usize = 18443;
+const LONGEST_RECORD: usize = 18638;
 
 fn check_longest(len: usize) -> Outcome
     ensures { λ r. ⌜ r ≡ check-longest len ⌝ }
@@ -57,6 +63,7 @@ fn check_walk(stage: Stage) -> Outcome
         Stage::Done => Outcome::Complete,
         Stage::SizeDue => Outcome::MalformedRecord,
         Stage::MethodDue => Outcome::MalformedRecord,
+        Stage::NumbersOrEntriesDue => Outcome::MalformedRecord,
         Stage::EntriesDue => Outcome::MalformedRecord,
         Stage::PastEnd { field } => Outcome::FieldPastEnd { field },
         Stage::WrongTag { field, tag: _ } => Outcome::TagNotDue { field },
@@ -91,16 +98,27 @@ pub fn check_record(len: usize, c: Cursor) -> Outcome
         .then(check_exact(c, len))
 }
 
-// ---- 2, 3, 4, 5 and 7
+// ---- 2, 3, 4, 12, 13, 5 and 7
+
+// 12 and 13 on the bytes of field 04, where there is one.
+fn request_number_checks(r: Request, contracts: &[u8]) -> Outcome
+    ensures { λ o. ⌜ o ≡ request-number-checks r (now (contracts .entry)) ⌝ }
+{
+    if r.numbered {
+        return number_byte_checks(r.size, contracts);
+    }
+    Outcome::Complete
+}
 
 // `room` is the length of the buffer lent for the answer.
-pub fn request_checks(r: Request, room: usize, entries: &[u8]) -> Outcome
-    ensures { λ o. ⌜ o ≡ request-checks r room (now (entries .entry)) ⌝ }
+pub fn request_checks(r: Request, room: usize, contracts: &[u8], entries: &[u8]) -> Outcome
+    ensures { λ o. ⌜ o ≡ request-checks r room (now (contracts .entry)) (now (entries .entry)) ⌝ }
 {
     let n = r.size;
     check_method(r.method)
         .then(check_size(n))
         .then(check_entries(n, entries.len()))
+        .then(request_number_checks(r, contracts))
         .then(check_buffer(LONGEST_ANSWER, room))
         .then(check_finite(n, entries))
 }

@@ -40,7 +40,7 @@ fn same_answer(input: &[u8], wanted: &[u8]) -> bool {
 
 // Whether the answer to the next record, of len bytes, is the oracle's.
 fn next_same(fd: i32, len: usize) -> bool {
-    let mut input = [0; 18444];
+    let mut input = [0; 18639];
     let mut wanted = [0; LONGEST_ANSWER];
     let n = read_part(fd, len, &mut input);
     let m = read_part(fd, read_length(fd), &mut wanted);

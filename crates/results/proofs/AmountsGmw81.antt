@@ -72,6 +72,6 @@ finish-amounts n s A r =
     let r' = finish-never n s r in
     rw (finish-goes n s (ap marked r')) (reorder-amounts n (s .p) (s .e) (A r'))
 
-pub amounts-gmw81 : (n : ℕ) (a : List Float) → run n a .progress .refused ≡ Never → Amounts n (run n a .e)
-amounts-gmw81 n a = subst (λ (x : Run). x .progress .refused ≡ Never → Amounts n (x .e)) (sym (run-is n a))
-    (finish-amounts n (stepped n a) (steps-keep n _ _ (λ j s. Kept n _ _ s) (kept n _ _) a (start-kept n _ _ a) .amounts))
+pub amounts-gmw81 : (numbers : List ℕ) (n : ℕ) (a : List Float) → run numbers n a .progress .refused ≡ Never → Amounts n (run numbers n a .e)
+amounts-gmw81 numbers n a = subst (λ (x : Run). x .progress .refused ≡ Never → Amounts n (x .e)) (sym (run-is numbers n a))
+    (finish-amounts n (stepped numbers n a) (steps-keep numbers n _ _ (λ j s. Kept n _ _ s) (kept n _ _) a (start-kept n _ _ a) .amounts))

@@ -102,7 +102,7 @@ unfolding leavesBefore oneOf
 one-not-below Se90 t P n a l some h = absurd (false≢true h)
 one-not-below Se99 t P n a l some h = one-not-negative t P n a l some h
 
-module _ (v : Variant) (t : Tolerances) (P : PositiveTolerances t) (n : ℕ) (a : List Float) (some : 0 < n) where
+module _ (v : Variant) (t : Tolerances) (P : PositiveTolerances t) (numbers : List ℕ) (n : ℕ) (a : List Float) (some : 0 < n) where
   kept-two : KeptInPhaseTwo v t (diagonalMax n a) n (First v t (diagonalMax n a) n) (Kept n)
   unfolding lastPair lastOne
   kept-two = record {
@@ -114,8 +114,8 @@ module _ (v : Variant) (t : Tolerances) (P : PositiveTolerances t) (n : ℕ) (a 
   }
 
   -- before they are put in the order of the original rows
-  run-amounts : run v t n a .progress .refused ≡ Never → Amounts n (run v t n a .e)
-  run-amounts = run-keeps v t n a (First v t (diagonalMax n a) n) (Kept n) (kept-one v t (diagonalMax n a) n) kept-two (start-first v t (diagonalMax n a) n a)
+  run-amounts : run v t numbers n a .progress .refused ≡ Never → Amounts n (run v t numbers n a .e)
+  run-amounts = run-keeps v t numbers n a (First v t (diagonalMax n a) n) (Kept n) (kept-one v t (diagonalMax n a) n) kept-two (start-first v t (diagonalMax n a) n a)
 
-  pub amounts-se : run v t n a .progress .refused ≡ Never → Amounts n (reorder n (run v t n a .p) (run v t n a .e))
-  amounts-se r = reorder-amounts n (run v t n a .p) (run v t n a .e) (run-amounts r)
+  pub amounts-se : run v t numbers n a .progress .refused ≡ Never → Amounts n (reorder n (run v t numbers n a .p) (run v t numbers n a .e))
+  amounts-se r = reorder-amounts n (run v t numbers n a .p) (run v t numbers n a .e) (run-amounts r)

@@ -107,7 +107,7 @@ finish-taken n s j = go (is (marked (s .progress .refused)))
     go (fails h) = rw (finish-goes n s h) (λ t. taken-before j n (s .progress .refused) _ t)
 
 pub d-results : DTheorem
-d-results n a z A j pj t =
+d-results numbers n a z A j pj t =
     let large = delta-bound (diagonalMax n a) (offDiagonalMax n a) in
-    let B = steps-keep n _ _ (Bounded n _ _ large) (bounded n _ _ large) a (start-bounded n _ _ large a) in
-    rw (run-is n a, finish-d n (stepped n a)) (B .large-d j pj (finish-taken n (stepped n a) j (rw run-is at t)))
+    let B = steps-keep numbers n _ _ (Bounded n _ _ large) (bounded n _ _ large) a (start-bounded n _ _ large a) in
+    rw (run-is numbers n a, finish-d n (stepped numbers n a)) (B .large-d j pj (finish-taken n (stepped numbers n a) j (rw run-is at t)))

@@ -51,8 +51,8 @@ finish-doubles n s D = go (is (marked (s .progress .refused)))
     go (holds h) = rw (finish-stays n s h) (λ e. absurd (true≢false (sym h ∙ ap marked e)))
     go (fails h) = rw (finish-goes n s h) (λ e. record { factor = product-doubles n (gmw.unitLower n (s .l)) (gmw.doutOf n (s .d)); amounts = reorder-doubles n (s .p) (s .e) D })
 
-pub doubles-gmw81 : (n : ℕ) (a : List Float) → gmw.run n a .progress .refused ≡ Never → DoublesEnd (gmw.run n a .l) (gmw.run n a .e)
-doubles-gmw81 n a = rw run-is (finish-doubles n (gmw.stepped n a) (steps-keep n _ _ (λ j s. EachDouble (s .e)) (kept-gmw81 n _ _) a (rw started-is (zeros-doubles n))))
+pub doubles-gmw81 : (numbers : List ℕ) (n : ℕ) (a : List Float) → gmw.run numbers n a .progress .refused ≡ Never → DoublesEnd (gmw.run numbers n a .l) (gmw.run numbers n a .e)
+doubles-gmw81 numbers n a = rw run-is (finish-doubles n (gmw.stepped numbers n a) (steps-keep numbers n _ _ (λ j s. EachDouble (s .e)) (kept-gmw81 n _ _) a (rw started-is (zeros-doubles n))))
 
 -- ---- SE90 and SE99
 record DoubleRun (s : Run) : Type 0 where
@@ -149,7 +149,7 @@ start-doubles : (n : ℕ) (a : List Float) → 0 < n → AcceptedMatrix n a → 
 unfolding start
 start-doubles n a some A = record { factor = accepted-doubles n a some A; amounts = zeros-doubles n; previous = zero-double }
 
-pub doubles-se : (v : Variant) (t : Tolerances) (n : ℕ) (a : List Float) → 0 < n → AcceptedMatrix n a → DoublesEnd (lowerTriangle n (run v t n a .l)) (reorder n (run v t n a .p) (run v t n a .e))
-doubles-se v t n a some A =
-    let D = run-keeps v t n a DoubleRun DoubleRun (kept-one v t (diagonalMax n a) n) (kept-two v t (diagonalMax n a) n) (start-doubles n a some A) in
-    record { factor = triangle-doubles n (run v t n a .l) (D .factor); amounts = reorder-doubles n (run v t n a .p) (run v t n a .e) (D .amounts) }
+pub doubles-se : (v : Variant) (t : Tolerances) (numbers : List ℕ) (n : ℕ) (a : List Float) → 0 < n → AcceptedMatrix n a → DoublesEnd (lowerTriangle n (run v t numbers n a .l)) (reorder n (run v t numbers n a .p) (run v t numbers n a .e))
+doubles-se v t numbers n a some A =
+    let D = run-keeps v t numbers n a DoubleRun DoubleRun (kept-one v t (diagonalMax n a) n) (kept-two v t (diagonalMax n a) n) (start-doubles n a some A) in
+    record { factor = triangle-doubles n (run v t numbers n a .l) (D .factor); amounts = reorder-doubles n (run v t numbers n a .p) (run v t numbers n a .e) (D .amounts) }

@@ -32,6 +32,6 @@ finish-lower n s F = go (is (marked (s .progress .refused)))
         let R = goes-on (s .progress .refused) scaled-test n e in
         product-lower n (unitLower n (s .l)) (s .d) (unit-lower n (s .l) (F (R .before))) (R .test))
 
-pub lower-gmw81 : (n : ℕ) (a : List Float) → AcceptedMatrix n a → run n a .progress .refused ≡ Never → LowerFactor n (run n a .l)
+pub lower-gmw81 : (numbers : List ℕ) (n : ℕ) (a : List Float) → AcceptedMatrix n a → run numbers n a .progress .refused ≡ Never → LowerFactor n (run numbers n a .l)
 unfolding run
-lower-gmw81 n a A = finish-lower n (stepped n a) (steps-finite n _ _ a (record { entries = A .entries; each = A .finite-entries }))
+lower-gmw81 numbers n a A = finish-lower n (stepped numbers n a) (steps-finite numbers n _ _ a (record { entries = A .entries; each = A .finite-entries }))

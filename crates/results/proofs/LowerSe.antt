@@ -94,8 +94,8 @@ start-finite : (n : ℕ) (a : List Float) → AcceptedMatrix n a → FiniteRun n
 unfolding start
 start-finite n a A e = record { entries = A .entries; each = A .finite-entries }
 
-finite-se : (v : Variant) (t : Tolerances) (n : ℕ) (a : List Float) → AcceptedMatrix n a → run v t n a .progress .refused ≡ Never → FiniteEntries n (run v t n a .l)
-finite-se v t n a A = run-keeps v t n a (FiniteRun n) (FiniteRun n) (kept-one v t (diagonalMax n a) n) (kept-two v t (diagonalMax n a) n) (start-finite n a A)
+finite-se : (v : Variant) (t : Tolerances) (numbers : List ℕ) (n : ℕ) (a : List Float) → AcceptedMatrix n a → run v t numbers n a .progress .refused ≡ Never → FiniteEntries n (run v t numbers n a .l)
+finite-se v t numbers n a A = run-keeps v t numbers n a (FiniteRun n) (FiniteRun n) (kept-one v t (diagonalMax n a) n) (kept-two v t (diagonalMax n a) n) (start-finite n a A)
 
-pub lower-se : (v : Variant) (t : Tolerances) (n : ℕ) (a : List Float) → AcceptedMatrix n a → run v t n a .progress .refused ≡ Never → LowerFactor n (lowerTriangle n (run v t n a .l))
-lower-se v t n a A e = triangle-lower n (run v t n a .l) (finite-se v t n a A e)
+pub lower-se : (v : Variant) (t : Tolerances) (numbers : List ℕ) (n : ℕ) (a : List Float) → AcceptedMatrix n a → run v t numbers n a .progress .refused ≡ Never → LowerFactor n (lowerTriangle n (run v t numbers n a .l))
+lower-se v t numbers n a A e = triangle-lower n (run v t numbers n a .l) (finite-se v t numbers n a A e)

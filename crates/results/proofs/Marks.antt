@@ -68,8 +68,8 @@ finish-below n s S = go (is (marked (s .progress .refused)))
     go (holds h) = rw (finish-stays n s h) S
     go (fails h) = rw (finish-goes n s h) (stored-below n n (not (gmw.scaledFinite n (gmw.doutOf n (s .d)) _)) S (omega arith))
 
-pub below-gmw81 : (n : ℕ) (a : List Float) → ProgressBelow n (gmw.run n a .progress)
-below-gmw81 n a = rw run-is (finish-below n (gmw.stepped n a) (steps-keep n _ _ (λ j s. ProgressBelow n (s .progress)) (kept n _ _) a (rw started-is (begun-below n))))
+pub below-gmw81 : (numbers : List ℕ) (n : ℕ) (a : List Float) → ProgressBelow n (gmw.run numbers n a .progress)
+below-gmw81 numbers n a = rw run-is (finish-below n (gmw.stepped numbers n a) (steps-keep numbers n _ _ (λ j s. ProgressBelow n (s .progress)) (kept n _ _) a (rw started-is (begun-below n))))
 
 -- ---- SE90 and SE99
 abbrev RunBelow : ℕ → se.Run → Type 0
@@ -97,5 +97,5 @@ start-below : (n : ℕ) (a : List Float) → RunBelow n (se.start n a)
 unfolding se.start
 start-below n a = begun-below n
 
-pub below-se : (v : Variant) (t : Tolerances) (n : ℕ) (a : List Float) → ProgressBelow n (se.run v t n a .progress)
-below-se v t n a = run-keeps v t n a (RunBelow n) (RunBelow n) (kept-one v t (diagonalMax n a) n) (kept-two v t (diagonalMax n a) n) (start-below n a)
+pub below-se : (v : Variant) (t : Tolerances) (numbers : List ℕ) (n : ℕ) (a : List Float) → ProgressBelow n (se.run v t numbers n a .progress)
+below-se v t numbers n a = run-keeps v t numbers n a (RunBelow n) (RunBelow n) (kept-one v t (diagonalMax n a) n) (kept-two v t (diagonalMax n a) n) (start-below n a)

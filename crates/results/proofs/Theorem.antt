@@ -22,12 +22,12 @@ use Rattle.results.proofs.Marks.{below-gmw81, below-se}
 use Rattle.results.proofs.Handed.{handed-sound}
 
 -- for every tolerances above zero
-sound : (t : Tolerances) → PositiveTolerances t → (method : Method) (n : ℕ) (a : List Float) → 0 < n → AcceptedMatrix n a → Sound n (factor method t n a)
+sound : (t : Tolerances) → PositiveTolerances t → (method : Method) (numbers : List ℕ) (n : ℕ) (a : List Float) → 0 < n → AcceptedMatrix n a → Sound n (factor method t numbers n a)
 unfolding factor gmw.mod-cholesky-gmw81 se.mod-cholesky-se
-sound t P Gmw81 n a some A = handed-sound n (gmw.run n a .progress) (gmw.run n a .l) (gmw.run n a .e) (gmw.run n a .p)
-    (record { amounts = amounts-gmw81 n a; lower = lower-gmw81 n a A; doubles = doubles-gmw81 n a; permuted = gmw-runs.run-permuted n a; marks = below-gmw81 n a })
-sound t P (Se v) n a some A = handed-sound n (se.run v t n a .progress) _ _ (se.run v t n a .p)
-    (record { amounts = amounts-se v t P n a some; lower = lower-se v t n a A; doubles = λ e. doubles-se v t n a some A; permuted = run-permuted v t n a; marks = below-se v t n a })
+sound t P Gmw81 numbers n a some A = handed-sound n (gmw.run numbers n a .progress) (gmw.run numbers n a .l) (gmw.run numbers n a .e) (gmw.run numbers n a .p)
+    (record { amounts = amounts-gmw81 numbers n a; lower = lower-gmw81 numbers n a A; doubles = doubles-gmw81 numbers n a; permuted = gmw-runs.run-permuted numbers n a; marks = below-gmw81 numbers n a })
+sound t P (Se v) numbers n a some A = handed-sound n (se.run v t numbers n a .progress) _ _ (se.run v t numbers n a .p)
+    (record { amounts = amounts-se v t P numbers n a some; lower = lower-se v t numbers n a A; doubles = λ e. doubles-se v t numbers n a some A; permuted = run-permuted v t numbers n a; marks = below-se v t numbers n a })
 
 pub results : ResultsTheorem
 results = sound tolerances tolerances-positive

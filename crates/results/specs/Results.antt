@@ -1,6 +1,6 @@
--- Document 01's promises about every result that a run hands back, complete or refused: no amount is negative, p is a permutation,
--- L is finite with +0.0 above the diagonal, amounts and entries of L are doubles, and every step that is reported is a step; and every d
--- that GMW81 stored is at least 2^-52.
+-- Document 01's promises about every result that a run hands back, complete or refused, with contract numbers or without: no amount is
+-- negative, p is a permutation, L is finite with +0.0 above the diagonal, amounts and entries of L are doubles, and every step that is
+-- reported is a step; and every d that GMW81 stored is at least 2^-52.
 -- Proved as `results` (proofs/Theorem.antt) and `d-results` (proofs/BoundsGmw81.antt).
 use mathlib.Core.Path.{_≡_}
 use mathlib.Core.Bool.{true, false}
@@ -51,7 +51,7 @@ pub record Sound (n : ℕ) (r : Result) : Type 0 where
   pub marks : MarksBelow n (r .decomposition)
 
 abbrev pub ResultsTheorem : Type 0
-ResultsTheorem = (method : Method) (n : ℕ) (a : List Float) → 0 < n → AcceptedMatrix n a → Sound n (factor method tolerances n a)
+ResultsTheorem = (method : Method) (numbers : List ℕ) (n : ℕ) (a : List Float) → 0 < n → AcceptedMatrix n a → Sound n (factor method tolerances numbers n a)
 
 -- step j was taken: it is not after the refused step, which stores its values too
 abbrev pub Taken : ℕ → Mark → Type 0
@@ -59,4 +59,4 @@ Taken j refused = (k : ℕ) → refused ≡ Step k → j ≤ k
 
 -- d[j] of every step that was taken, also in a refused run
 abbrev pub DTheorem : Type 0
-DTheorem = (n : ℕ) (a : List Float) → 0 < n → AcceptedMatrix n a → (j : ℕ) → j < n → Taken j (run n a .progress .refused) → AtLeast epsilon (getD (run n a .d) j nan)
+DTheorem = (numbers : List ℕ) (n : ℕ) (a : List Float) → 0 < n → AcceptedMatrix n a → (j : ℕ) → j < n → Taken j (run numbers n a .progress .refused) → AtLeast epsilon (getD (run numbers n a .d) j nan)

@@ -1,14 +1,15 @@
 // Statements that the methods share.
 ghost use mathlib.Core.Path.{_≡_};
-ghost use mathlib.Core.Bool.{_&&_};
+ghost use mathlib.Core.Bool.{cond, _&&_};
 ghost use Prim.Native.Nat.{ℕ, _+_, _-_, _*_, _<_, _≤_};
 ghost use lib.ListN.{length, getD};
+ghost use lib.Dec.{ltb};
 ghost use lib.Ieee.{nan};
 ghost use lib.Ieee.Scale.{finite};
 ghost use Rattle.arithmetic.specs.Double.{_⊘_};
 ghost use Rattle.matrix.specs.Matrix.{Square, at};
 ghost use Rattle.matrix.specs.Plain.{AllBelow};
-ghost use Rattle.methods.specs.Statements.{largerMagnitude, diagonalMax, diagonal, pick, pivotMatrix, pivotList, eliminate, clearAfter, lowerTriangle, reorder, blockFinite};
+ghost use Rattle.methods.specs.Statements.{largerMagnitude, diagonalMax, diagonal, numberAt, smallestNumber, pick, pivotMatrix, pivotList, eliminate, clearAfter, lowerTriangle, reorder, blockFinite};
 ghost use Rattle.methods.specs.Elimination.{mirrored, swapLeft, swapBetween, swapBelow, RowWritten, ColumnWritten, RowsEliminated, subtracted};
 ghost use Rattle.methods.specs.Result.{identity};
 use arithmetic::double::abs;
@@ -42,12 +43,68 @@ pub fn diagonal_max(m: &[f64], n: usize) -> f64
 
 // ---- the pivot search
 
-// Where the largest of the values from j on is first, counted from j, and whether it is tied.
-pub fn pick(magnitude: bool, values: &[f64], j: usize) -> Found
-    requires { ⌜ j < length (now values) ⌝ }
-    ensures { λ r. ⌜ r ≡ pick magnitude (now (values .entry)) j ⌝ }
+// 0 where the contract has none.
+fn number_at(numbers: &[u32], p: &[usize], t: usize) -> u32
+    requires { ⌜ t < length (now p) ⌝ }
+    ensures { λ r. ⌜ r ≡ numberAt (now (numbers .entry)) (now (p .entry)) t ⌝ }
 {
-    utils::largest(magnitude, &values[j..])
+    let row = p[t];
+    if row < numbers.len() {
+        return numbers[row];
+    }
+    0
+}
+
+// i where it is tied and its number is smaller than that of the best so far, else the best.
+fn look_number(tied: bool, number: u32, least: u32, i: usize, best: usize) -> usize
+    ensures { λ r. ⌜ r ≡ cond (tied && ltb number least) i best ⌝ }
+{
+    if !tied {
+        return best;
+    }
+    if number < least {
+        return i;
+    }
+    best
+}
+
+// Of the candidates tied with the first of the largest, the one with the smallest number. Candidate i stands at position j + i.
+fn smallest_number(
+    numbers: &[u32],
+    p: &[usize],
+    j: usize,
+    magnitude: bool,
+    c: &[f64],
+    first: usize,
+) -> usize
+    requires { ⌜ (first < length (now c)) × (j + length (now c) ≤ length (now p)) ⌝ }
+    ensures { λ r. ⌜ r ≡ smallestNumber (λ i. numberAt (now (numbers .entry)) (now (p .entry)) (j + i)) magnitude (now (c .entry)) first ⌝ }
+{
+    let largest = utils::key(magnitude, c[first]);
+    let mut best = first;
+    let n = c.len();
+    for i in 0..n {
+        let tied = largest == utils::key(magnitude, c[i]);
+        let number = number_at(numbers, p, j + i);
+        best = look_number(tied, number, number_at(numbers, p, j + best), i, best);
+    }
+    best
+}
+
+// The pivot among the values from j on, counted from j, and whether its search was tied.
+pub fn pick(numbers: &[u32], p: &[usize], magnitude: bool, values: &[f64], j: usize) -> Found
+    requires { ⌜ (j < length (now values)) × (length (now p) ≡ length (now values)) ⌝ }
+    ensures { λ r. ⌜ r ≡ pick (now (numbers .entry)) (now (p .entry)) magnitude (now (values .entry)) j ⌝ }
+{
+    let found = utils::largest(magnitude, &values[j..]);
+    if numbers.len() == 0 {
+        return found;
+    }
+    let index = smallest_number(numbers, p, j, magnitude, &values[j..], found.index);
+    Found {
+        index,
+        tied: found.tied,
+    }
 }
 
 // .. of the diagonal, which is copied from j on
@@ -62,13 +119,21 @@ fn copy_diagonal(m: &[f64], n: usize, j: usize, diag: &mut [f64])
     }
 }
 
-pub fn search_diagonal(magnitude: bool, m: &[f64], n: usize, j: usize, diag: &mut [f64]) -> Found
+pub fn search_diagonal(
+    numbers: &[u32],
+    p: &[usize],
+    magnitude: bool,
+    m: &[f64],
+    n: usize,
+    j: usize,
+    diag: &mut [f64],
+) -> Found
     requires { ⌜ Square n (now m) ⌝ }
-    requires { ⌜ (j < n) × (length (now diag) ≡ n) ⌝ }
-    ensures { λ r. ⌜ r ≡ pick magnitude (diagonal n (now (m .entry))) j ⌝ }
+    requires { ⌜ (j < n) × (length (now diag) ≡ n) × (length (now p) ≡ n) ⌝ }
+    ensures { λ r. ⌜ r ≡ pick (now (numbers .entry)) (now (p .entry)) magnitude (diagonal n (now (m .entry))) j ⌝ }
 {
     copy_diagonal(m, n, j, diag);
-    pick(magnitude, diag, j)
+    pick(numbers, p, magnitude, diag, j)
 }
 
 // ---- pivots: nothing where max_idx is 0

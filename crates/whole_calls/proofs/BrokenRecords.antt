@@ -17,16 +17,14 @@ use Rattle.arithmetic.proofs.Cases.{is, holds, fails}
 use Rattle.matrix.proofs.CheckLaws.{Accepted}
 use Rattle.answer_record.specs.AnswerRecord.{longestAnswer}
 use Rattle.record.specs.Cursor.{walk}
-use Rattle.record.specs.MatrixRecord.{matrix-record, request, entriesOf, longestRecord, check-walk, exact, check-exact, check-record, byte-checks, record-checks}
+use Rattle.record.specs.MatrixRecord.{request, contractsOf, entriesOf, longestRecord, check-walk, exact, check-exact, check-record, byte-checks, record-checks}
 use Rattle.encoding.specs.Writing.{over}
 use Rattle.record.specs.Record.{resultOf, answer, RecordCall, recordCall, record-call}
-use Rattle.whole_calls.specs.BrokenRecords.{lengthAt, fieldStart, Stands, Reached, PastEndAt, WrongTagAt, AllStand, RightLengths, Malformed, handedBack, isBroken, BrokenRecordsTheorem}
-use Rattle.record.specs.declared.cursor.Cursor.{Cursor}
-use Rattle.record.proofs.Walk.{walk-steps}
+use Rattle.whole_calls.specs.BrokenRecords.{lengthAt, fieldStart, fieldsDue, Stands, Reached, PastEndAt, WrongTagAt, AllStand, RightLengths, Malformed, handedBack, isBroken, ownRecord, BrokenRecordsTheorem}
 use Rattle.record.proofs.Early.{beforeRun, content-early}
 use Rattle.record.proofs.Answers.{refused-outcome, accepted-number}
-use Rattle.whole_calls.proofs.MatrixRecord.{record-well-formed, accepted-length, well-formed-is}
-use Rattle.whole_calls.proofs.Walked.{Walked, walked, three, cut-in, tag-in}
+use Rattle.whole_calls.proofs.MatrixRecord.{record-well-formed, numbered-well-formed, accepted-length, well-formed-is}
+use Rattle.whole_calls.proofs.Walked.{Walked, walked, all, cut-in, tag-in}
 
 -- ---- the first offending field is one field
 abbrev Offends : List ℕ → ℕ → Type 0
@@ -87,12 +85,11 @@ judged b = elim (decLt longestRecord (length b)) [
     walk-judged : length b ≤ longestRecord → Walked b → Judged b (verdict b)
     walk-judged h (cut-in i p e) = cut-at i h p (stopped b h (FieldPastEnd i) refl (ap check-walk e))
     walk-judged h (tag-in i found p e) = tag-at i h p (stopped b h (TagNotDue i) refl (ap check-walk e))
-    walk-judged h (three t) =
-        let done : check-walk (walk b .stage) ≡ Complete = ap (λ (c : Cursor). check-walk (c .stage)) (walk-steps b ∙ t .third .leads) in
-        let v = went-on b h done in
+    walk-judged h (all t) =
+        let v = went-on b h (ap check-walk (t .done)) in
         let x = eqb (lengthAt b (fieldStart b 0)) 1 in
         let y = eqb (lengthAt b (fieldStart b 1)) 1 in
-        let z = eqb (fieldStart b 3) (length b) in
+        let z = eqb (fieldStart b (fieldsDue b)) (length b) in
         let e : exact (walk b) (length b) ≡ (x && (y && z)) = rw (t .size-length, t .method-length, t .end-is) in
         elim (is (x && (y && z))) [
           | holds r ↦
@@ -198,9 +195,16 @@ module _ (b : List ℕ) (o : Outcome) where
   unbroken-accepted (sound h s r A _) u = A
 
 -- the record of its own parts passes checks 1, 10 and 11
-own-record : (b : List ℕ) → length b ≤ longestRecord → b ≡ matrix-record (request b .size) (request b .method) (entriesOf b) → complete (verdict b) ≡ true
-own-record b h e =
-    subst (λ (x : List ℕ). complete (check-record (length x) (walk x)) ≡ true) (sym e) (record-well-formed (request b .size) (request b .method) (entriesOf b) (rw (← e) h) .is)
+abbrev FormPasses : List ℕ → Type 0
+FormPasses b = length b ≤ longestRecord → Accepted (check-record (length b) (walk b))
+
+own-record : (b : List ℕ) → b ≡ ownRecord b → FormPasses b
+own-record b e =
+    let r = request b in
+    subst FormPasses (sym e) (elim (is (r .numbered)) [
+      | holds t ↦ rw t (numbered-well-formed (r .size) (r .method) (contractsOf b) (entriesOf b))
+      | fails t ↦ rw t (record-well-formed (r .size) (r .method) (entriesOf b))
+    ])
 
 pub broken-records : BrokenRecordsTheorem
 broken-records b out =
@@ -211,6 +215,6 @@ broken-records b out =
       malformed = malformed-told b (handedBack b out) j;
       otherwise = λ small. (
         λ u. let A = unbroken-accepted b (handedBack b out) j u in (accepted-length b A, well-formed-is b A small),
-        λ e. handed-later b out (own-record b (e .0) (e .1)),
+        λ e. handed-later b out (own-record b (e .1) (e .0) .is),
       );
     }

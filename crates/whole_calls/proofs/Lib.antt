@@ -5,7 +5,9 @@ pub mod Reading
 pub mod ReadFields
 pub mod ReadBack
 pub mod ReadBackTheorem
+pub mod NumberBytes
 pub mod Answers
 pub mod Records
 pub mod BrokenRecords
+pub mod AsBefore
 pub mod ByteCalls

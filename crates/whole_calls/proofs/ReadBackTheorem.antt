@@ -11,9 +11,9 @@ use Rattle.matrix.proofs.CheckLaws.{Accepted}
 use Rattle.methods.specs.Calls.{methodOf}
 use Rattle.methods.specs.Result.{Result}
 use Rattle.results.proofs.Theorem.{results}
-use Rattle.encoding.specs.Bytes.{doubles}
+use Rattle.encoding.specs.Bytes.{numbers, doubles}
 use Rattle.answer_record.specs.AnswerRecord.{longestAnswer, answer-record}
-use Rattle.record.specs.MatrixRecord.{request, entriesOf, request-checks, byte-checks}
+use Rattle.record.specs.MatrixRecord.{request, contractsOf, entriesOf, request-checks, byte-checks}
 use Rattle.whole_calls.specs.ReadBack.{readAnswer}
 use Rattle.whole_calls.specs.ReadBackTheorem.{shown, ReadBackTheorem}
 use Rattle.record.specs.Record.{refused, resultOf, resultTo, answer}
@@ -41,20 +41,20 @@ read-shown r R = elim (is (complete (r .decomposition .outcome))) [
 refused-readable : (o : Outcome) → Fits (refused o) → Readable (refused o)
 refused-readable o f = record { fits = f; factor = λ k h. absurd (omega arith); amounts = λ k h. absurd (omega arith) }
 
-module _ (r : Request) (room : ℕ) (entries : List ℕ) (h : Accepted (request-checks r room entries)) where
-  request-readable : Readable (resultTo r entries)
+module _ (r : Request) (room : ℕ) (contracts entries : List ℕ) (h : Accepted (request-checks r room contracts entries)) where
+  request-readable : Readable (resultTo r contracts entries)
   unfolding resultTo
-  request-readable = go (is (complete (check-symmetric (r .size) (doubles entries)))) (request-fits r room entries h)
+  request-readable = go (is (complete (check-symmetric (r .size) (doubles entries)))) (request-fits r room contracts entries h)
     where
-      go : Is (complete (check-symmetric (r .size) (doubles entries))) → Fits (resultTo r entries) → Readable (resultTo r entries)
+      go : Is (complete (check-symmetric (r .size) (doubles entries))) → Fits (resultTo r contracts entries) → Readable (resultTo r contracts entries)
       go (holds c) = rw c (λ f.
-          let s = results (methodOf (r .method)) (r .size) (doubles entries) (request-accepted r room entries h .0 .some) (matrix-accepted r room entries h (record { is = c })) in
+          let s = results (methodOf (r .method)) (numbers contracts) (r .size) (doubles entries) (request-accepted r room contracts entries h .0 .some) (matrix-accepted r room contracts entries h (record { is = c })) in
           record { fits = f; factor = s .doubles .0; amounts = s .doubles .1 })
       go (fails c) = rw c (refused-readable (check-symmetric (r .size) (doubles entries)))
 
 result-readable : (b : List ℕ) → Readable (resultOf b)
 result-readable b = elim (is (complete (byte-checks b longestAnswer))) [
-  | holds c ↦ rw (answer-request b c) (request-readable (request b) longestAnswer (entriesOf b) (bytes-parts b longestAnswer (record { is = c })))
+  | holds c ↦ rw (answer-request b c) (request-readable (request b) longestAnswer (contractsOf b) (entriesOf b) (bytes-parts b longestAnswer (record { is = c })))
   | fails c ↦ rw (bytes-refused b c) (refused-readable (byte-checks b longestAnswer) (bytes-fit b))
 ]
 

@@ -1,59 +1,86 @@
--- The theorem on load order, for two whole records.
-use mathlib.Core.Path.{_≡_, refl, sym, ap, subst}
+-- The theorems on load order, for two whole records.
+use mathlib.Core.Path.{_≡_, refl, sym, ap, subst, _∙_}
 use mathlib.Core.Bool.{not}
-use mathlib.Core.List.{List}
-use Prim.Native.Nat.{ℕ, _*_, _≤_, _<_}
-use native.Mathlib.Omega.{arith}
+use mathlib.Core.List.{List, []}
+use Prim.Native.Nat.{ℕ, _*_, _≤_}
 use lib.ListN.{length}
 use lib.Dec.{eqb}
 use lib.Ieee.{Float}
+use Rattle.arithmetic.specs.Outcome.{_then_}
 use Rattle.arithmetic.specs.declared.outcome.Outcome.the-variants.{MatrixLength, BufferLength}
-use Rattle.matrix.specs.Checks.{check-buffer}
-use Rattle.matrix.proofs.CellLaws.{square-small}
+use Rattle.matrix.specs.Checks.{check-size, check-buffer, check-finite, check-symmetric, Distinct}
+use Rattle.matrix.specs.Plain.{AllBelow}
 use Rattle.matrix.proofs.CheckLaws.{Accepted}
 use Rattle.methods.specs.AcceptedMatrix.{AcceptedMatrix}
-use Rattle.methods.specs.Calls.{methodOf}
+use Rattle.methods.specs.Calls.{check-method, methodOf}
 use Rattle.methods.specs.Factor.{factor, tolerances}
 use Rattle.methods.specs.Reloading.{reload}
 use Rattle.methods.proofs.AcceptedCalls.{good-accepted, then-accepted, method-passes, size-passes, length-passes, finite-passes, symmetric-passes, matrix-doubles, reload-accepted}
 use Rattle.load_order.specs.LoadOrder.{Alike}
+use Rattle.load_order.specs.Numbered.{reloadNumbers, NumberedAlike}
 use Rattle.load_order.proofs.Theorem.{load-order}
-use Rattle.encoding.specs.Bytes.{doubleBytes}
+use Rattle.load_order.proofs.Numbered.{length-reloaded, reloaded-distinct, numbered}
+use Rattle.encoding.specs.Bytes.{doubles, doubleBytes}
 use Rattle.encoding.specs.Checks.{check-entries}
 use Rattle.encoding.proofs.ByteLaws.{length-content}
+use Rattle.encoding.proofs.Content.{doubles-content}
 use Rattle.answer_record.specs.AnswerRecord.{longestAnswer}
-use Rattle.record.specs.MatrixRecord.{request, record-checks, matrixOf}
+use Rattle.record.specs.MatrixRecord.{record-checks}
 use Rattle.record.specs.Record.{resultOf}
-use Rattle.record.specs.declared.read.Request.{Request}
-use Rattle.whole_calls.proofs.MatrixRecord.{record-request}
-use Rattle.whole_calls.proofs.Reading.{record-matrix, record-checks-of}
+use Rattle.whole_calls.specs.BrokenRecords.{contentChecks, numberedChecks}
+use Rattle.whole_calls.specs.NumberBytes.{numberBytes}
+use Rattle.whole_calls.specs.Records.{recordOf, RecordsTheorem, numberedRecordOf, NumberedRecordsTheorem}
+use Rattle.whole_calls.proofs.MatrixRecord.{record-fits, numbered-fits}
+use Rattle.whole_calls.proofs.NumberBytes.{numbers-content, number-bytes-length, number-bytes-pass, reloaded-below}
+use Rattle.whole_calls.proofs.Reading.{whole-records, whole-numbered-records}
 use Rattle.whole_calls.proofs.ReadBackTheorem.{read-back}
-use Rattle.whole_calls.specs.Records.{recordOf, RecordsTheorem}
-use Rattle.whole_calls.proofs.Answers.{shown-alike}
+use Rattle.whole_calls.proofs.Answers.{shown-alike, shown-numbered}
 
 module _ (method n : ℕ) (a : List Float) (p : 1 ≤ method) (q : method ≤ 3) (u : 1 ≤ n) (w : n ≤ 48) (A : AcceptedMatrix n a) where
-  few : length a ≤ 48 * 48
-  few = omega (arith, A .entries, square-small n w)
+  abbrev entries : List ℕ
+  entries = doubleBytes a
 
-  short : length (doubleBytes a) < 65536
-  short = omega (arith, length-content a, few)
+  same : doubles entries ≡ a
+  same = doubles-content a (matrix-doubles n a u A)
+
+  entries-length : length entries ≡ 8 * (n * n)
+  entries-length = length-content a ∙ ap (λ (x : ℕ). 8 * x) (A .entries)
+
+  sizes-pass : Accepted (check-method method then check-size n then check-entries n (length entries))
+  sizes-pass = then-accepted (then-accepted (method-passes method p q) (size-passes n u w)) (good-accepted (not (eqb (length entries) (8 * (n * n)))) MatrixLength (length-passes (8 * (n * n)) (length entries) entries-length))
+
+  room-passes : Accepted (check-buffer longestAnswer longestAnswer)
+  room-passes = good-accepted (not (eqb longestAnswer longestAnswer)) BufferLength (length-passes longestAnswer longestAnswer refl)
+
+  finite-entries : Accepted (check-finite n (doubles entries))
+  finite-entries = rw same (finite-passes n a u A)
+
+  symmetric-entries : Accepted (check-symmetric n (doubles entries))
+  symmetric-entries = rw same (symmetric-passes n a u A)
+
+  -- ---- without contract numbers
+  content-passes : Accepted (contentChecks n method entries longestAnswer)
+  content-passes = then-accepted (then-accepted (then-accepted sizes-pass room-passes) finite-entries) symmetric-entries
 
   record-passes : Accepted (record-checks (recordOf method n a) longestAnswer)
-  record-passes =
-      let sized = then-accepted (method-passes method p q) (size-passes n u w) in
-      let entries : Accepted (check-entries n (8 * length a)) = good-accepted (not (eqb (8 * length a) (8 * (n * n)))) MatrixLength (length-passes (8 * (n * n)) (8 * length a) (ap (λ (x : ℕ). 8 * x) (A .entries))) in
-      let room : Accepted (check-buffer longestAnswer longestAnswer) = good-accepted (not (eqb longestAnswer longestAnswer)) BufferLength (length-passes longestAnswer longestAnswer refl) in
-      subst Accepted (sym (record-checks-of n method a (matrix-doubles n a u A) longestAnswer few))
-      (then-accepted (then-accepted (then-accepted (then-accepted sized entries) room) (finite-passes n a u A)) (symmetric-passes n a u A))
+  record-passes = subst Accepted (sym (whole-records n method entries (record-fits n method entries w entries-length) .checks-are longestAnswer)) content-passes
 
-  record-result : resultOf (recordOf method n a) ≡ factor (methodOf method) tolerances n a
-  unfolding resultOf
-  record-result =
-      let r = record-request n method (doubleBytes a) short in
-      let size : request (recordOf method n a) .size ≡ n = ap (λ (r : Request). r .size) r in
-      let number : request (recordOf method n a) .method ≡ method = ap (λ (r : Request). r .method) r in
-      let matrix : matrixOf (recordOf method n a) ≡ a = record-matrix n method a (matrix-doubles n a u A) (omega (arith, few)) in
-      rw (record-passes .is, size, number, matrix)
+  record-result : resultOf (recordOf method n a) ≡ factor (methodOf method) tolerances [] n a
+  record-result = whole-records n method entries (record-fits n method entries w entries-length) .result-is ∙ rw (content-passes .is, same)
+
+  -- ---- with contract numbers
+  module _ (ks : List ℕ) (e : length ks ≡ n) (below : AllBelow 0x1_0000_0000 ks) (D : Distinct ks) where
+    abbrev contracts : List ℕ
+    contracts = numberBytes ks
+
+    numbered-content-passes : Accepted (numberedChecks n method contracts entries longestAnswer)
+    numbered-content-passes = then-accepted (then-accepted (then-accepted (then-accepted sizes-pass (number-bytes-pass n ks e below D)) room-passes) finite-entries) symmetric-entries
+
+    numbered-passes : Accepted (record-checks (numberedRecordOf method n ks a) longestAnswer)
+    numbered-passes = subst Accepted (sym (whole-numbered-records n method contracts entries (numbered-fits n method contracts entries w (number-bytes-length n ks e) entries-length) .checks-are longestAnswer)) numbered-content-passes
+
+    numbered-result : resultOf (numberedRecordOf method n ks a) ≡ factor (methodOf method) tolerances ks n a
+    numbered-result = whole-numbered-records n method contracts entries (numbered-fits n method contracts entries w (number-bytes-length n ks e) entries-length) .result-is ∙ rw (numbered-content-passes .is, same, numbers-content ks below)
 
 pub records : RecordsTheorem
 records method n a s p q u w A L =
@@ -67,4 +94,23 @@ records method n a s p q u w A L =
       second-passes = record-passes method n (reload n s a) p q u w A' .is;
       alike = alike;
       answers-alike = rw (read-back b, read-back b') (shown-alike n s (resultOf b) (resultOf b') alike);
+    }
+
+pub numbered-records : NumberedRecordsTheorem
+numbered-records method n a ks s p q u w A e below D L =
+    let A' = reload-accepted n a s A L in
+    let ks' = reloadNumbers n s ks in
+    let e' = length-reloaded n s ks in
+    let below' = reloaded-below n ks e s below L in
+    let D' = reloaded-distinct n s ks e D L in
+    let b = numberedRecordOf method n ks a in
+    let b' = numberedRecordOf method n ks' (reload n s a) in
+    let alike : NumberedAlike (methodOf method) n s (resultOf b) (resultOf b') =
+    rw (numbered-result method n a p q u w A ks e below D, numbered-result method n (reload n s a) p q u w A' ks' e' below' D')
+    (numbered (methodOf method) tolerances ks n a s e D A L) in
+    record {
+      first-passes = numbered-passes method n a p q u w A ks e below D .is;
+      second-passes = numbered-passes method n (reload n s a) p q u w A' ks' e' below' D' .is;
+      alike = alike;
+      answers-alike = rw (read-back b, read-back b') (shown-numbered n s (resultOf b) (resultOf b') (methodOf method) alike);
     }

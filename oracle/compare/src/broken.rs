@@ -3,9 +3,10 @@
 use crate::operands::not_finite;
 use oracle::generate::rng::Rng;
 use oracle::generate::{matrix, KINDS};
-use oracle::record::{matrix_record, LONGEST};
+use oracle::numbered::{numbers, Numbered};
+use oracle::record::{bytes, field, matrix_record, number_bytes, LONGEST, NUMBERED_DUE};
 
-/// Where field 03 has its content, in a record whose first two fields are sound.
+/// Where field 03 has its content, in a record of sound fields without numbers.
 const ENTRIES: usize = 11;
 
 pub fn record(rng: &mut Rng) -> Vec<u8> {
@@ -137,6 +138,111 @@ fn other_length(bytes: &mut Vec<u8>, rng: &mut Rng) {
     put(bytes, 10, high);
 }
 
+/// The fields of a numbered record, by tag.
+type Fields = Vec<(u8, Vec<u8>)>;
+
+/// The same of records with numbers: one or two faults in the fields, now and then one in the bytes.
+pub fn numbered(rng: &mut Rng) -> Vec<u8> {
+    let mut fields = sound_fields(rng);
+    for _ in 0..1 + rng.below(2) {
+        break_field(&mut fields, rng);
+    }
+    let parts = fields
+        .iter()
+        .flat_map(|(tag, content)| field(*tag, content));
+    let mut bytes: Vec<u8> = parts.collect();
+    if rng.below(3) == 0 {
+        break_bytes(&mut bytes, rng);
+    }
+    bytes
+}
+
+fn sound_fields(rng: &mut Rng) -> Fields {
+    let n = if rng.below(64) == 0 {
+        48
+    } else {
+        1 + rng.below(6)
+    };
+    let method = 1 + rng.below(3) as u8;
+    let kind = rng.pick(&KINDS[..12]);
+    let made = Numbered {
+        method,
+        n,
+        matrix: matrix(kind, method, n, 0, rng),
+        numbers: numbers(n, rng),
+    };
+    let contents = [
+        vec![n as u8],
+        vec![method],
+        number_bytes(&made.numbers),
+        bytes(&made.matrix),
+    ];
+    NUMBERED_DUE.into_iter().zip(contents).collect()
+}
+
+fn break_field(fields: &mut Fields, rng: &mut Rng) {
+    let at = rng.below(fields.len().max(1));
+    let Some((tag, content)) = fields.get_mut(at) else {
+        return;
+    };
+    match (rng.below(16), *tag) {
+        (0, _) => *tag = rng.below(6) as u8,
+        (1, _) => *tag = rng.bits() as u8,
+        (2, _) => content.push(1),
+        (3, _) => content.truncate(content.len().saturating_sub(1)),
+        (4, _) => fields.swap(at, 0),
+        (5, _) => {
+            let again = fields[at].clone();
+            fields.insert(at, again);
+        }
+        (6, _) => {
+            fields.remove(at);
+        }
+        (_, 0x01) => *content = vec![rng.pick(&[0, 1, 2, 48, 49, 255])],
+        (_, 0x02) => *content = vec![rng.pick(&[0, 1, 2, 3, 4, 255])],
+        (7 | 8, 0x04) => other_numbers_length(content, rng),
+        (_, 0x04) => repeat_number(content, rng),
+        (_, _) => spoil_entry(content, rng),
+    }
+}
+
+fn other_numbers_length(content: &mut Vec<u8>, rng: &mut Rng) {
+    let len = content.len();
+    let lengths = [0, len.saturating_sub(4), len + 4, 2 * len, len + 2];
+    content.resize(rng.pick(&lengths), 3);
+}
+
+fn repeat_number(content: &mut [u8], rng: &mut Rng) {
+    let count = content.len() / 4;
+    if count > 1 {
+        let (from, to) = (4 * rng.below(count), 4 * rng.below(count));
+        content.copy_within(from..from + 4, to);
+    }
+}
+
+/// Not finite, or of the other sign, or of another number of entries.
+fn spoil_entry(content: &mut Vec<u8>, rng: &mut Rng) {
+    let at = 8 * rng.below((content.len() / 8).max(1));
+    match rng.below(3) {
+        0 => content.truncate(at),
+        1 => put(content, at + 7, 0x80),
+        _ => {
+            for (k, byte) in not_finite(rng).to_le_bytes().into_iter().enumerate() {
+                put(content, at + k, byte);
+            }
+        }
+    }
+}
+
+fn break_bytes(bytes: &mut Vec<u8>, rng: &mut Rng) {
+    match rng.below(4) {
+        0 => bytes.truncate(rng.below(bytes.len() + 1)),
+        1 => bytes.extend((0..1 + rng.below(9)).map(|_| rng.bits() as u8)),
+        2 => bytes.resize(LONGEST - 2 + rng.below(5), 0),
+        _ => flip(bytes, rng),
+    }
+}
+
 #[cfg(test)]
 mod tests {
     use super::*;
@@ -149,17 +255,28 @@ mod tests {
         (refusal.number, has_field.then_some(refusal.place[0]))
     }
 
-    #[test]
-    fn every_check_of_a_record_fails_often() {
+    /// Whether of 4000 records so many are refused by each number, and at each field.
+    fn often(least: usize, record: fn(&mut Rng) -> Vec<u8>, numbers: &[u8], fields: &[u8]) {
         let mut rng = Rng::new(1, 0);
         let mut seen: BTreeMap<(u8, Option<u8>), usize> = BTreeMap::new();
         for _ in 0..4000 {
             let refusal = checked(&record(&mut rng)).err();
             *seen.entry(refusal.map_or((0, None), kind)).or_default() += 1;
         }
-        let whole = [0, 1, 2, 3, 4, 7, 8].map(|number| (number, None));
-        let fields = [PAST_END, TAG_NOT_DUE].map(|r| [0, 1, 2].map(|field| (r, Some(field))));
-        let often = |kind: &(u8, Option<u8>)| seen.get(kind) > Some(&100);
-        assert!(whole.iter().chain(&fields.concat()).all(often), "{seen:?}");
+        let whole = numbers.iter().map(|&number| (number, None));
+        let at = |r: u8| fields.iter().map(move |&field| (r, Some(field)));
+        let mut all = whole.chain(at(PAST_END)).chain(at(TAG_NOT_DUE));
+        assert!(all.all(|kind| seen.get(&kind) >= Some(&least)), "{seen:?}");
+    }
+
+    #[test]
+    fn every_check_of_a_record_fails_often() {
+        often(100, record, &[0, 1, 2, 3, 4, 7, 8], &[0, 1, 2]);
+    }
+
+    #[test]
+    fn every_check_of_a_numbered_record_fails_often() {
+        let numbers = [0, 1, 2, 3, 4, 7, 8, 12, 13];
+        often(25, super::numbered, &numbers, &[0, 1, 2, 3]);
     }
 }

@@ -1,4 +1,4 @@
-//! Document 01's checks on the operands of a call, each as the refusal it gives.
+//! Documents 01's and 02's checks on the operands of a call, each as the refusal it gives.
 
 use crate::port::Refusal;
 
@@ -32,6 +32,17 @@ pub fn whole_doubles(list: &[u8]) -> Checked {
 
 pub fn matrix_length(matrix: &[u8], n: usize) -> Checked {
     demand(matrix.len() == 8 * n * n, [4, 0, 0])
+}
+
+/// In bytes, four a number.
+pub fn numbers_length(numbers: &[u8], n: usize) -> Checked {
+    demand(numbers.len() == 4 * n, [12, 0, 0])
+}
+
+pub fn distinct(numbers: &[u32]) -> Checked {
+    let came_before = |at: usize| numbers[..at].contains(&numbers[at]);
+    let first = (0..numbers.len()).find(|&at| came_before(at));
+    first.map_or(Ok(()), |position| Err([13, position, 0]))
 }
 
 /// In bytes.

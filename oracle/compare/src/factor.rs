@@ -1,29 +1,41 @@
-//! The two calls of a factorization on lent buffers: on bytes and on doubles.
+//! The calls of a factorization on lent buffers, without numbers and with: on bytes and on doubles.
 
 use crate::calls::{called, refusal, Called, Outcome};
 use crate::checks::{self, Checked};
-use crate::operands::{doubles, filling, not_finite, other_length};
+use crate::operands::{doubles, filling, not_finite, other_length, words};
 use crate::port::{self, Buffers, Factored};
 use oracle::generate::rng::Rng;
 use oracle::generate::Case;
-use oracle::record::{bytes, Reply};
+use oracle::numbered::Numbered;
+use oracle::record::{bytes, number_bytes, Reply};
 
 const NONE: usize = 255;
 
-struct Operands {
+pub struct Operands {
     method: usize,
     a: Vec<u8>,
     n: usize,
+    /// In a numbered call.
+    numbers: Option<Vec<u8>>,
     lent: Buffers<u8, u8>,
 }
 
 impl Operands {
-    fn new(case: &Case) -> Self {
-        let n = case.n;
+    pub fn of_case(case: &Case) -> Self {
+        Operands::new(case.method, case.n, &case.matrix, None)
+    }
+
+    pub fn numbered(made: &Numbered) -> Self {
+        let numbers = number_bytes(&made.numbers);
+        Operands::new(made.method, made.n, &made.matrix, Some(numbers))
+    }
+
+    fn new(method: u8, n: usize, matrix: &[f64], numbers: Option<Vec<u8>>) -> Self {
         Operands {
-            method: case.method.into(),
-            a: bytes(&case.matrix),
+            method: method.into(),
+            a: bytes(matrix),
             n,
+            numbers,
             lent: Buffers {
                 l: filling(8 * n * n),
                 work: filling(8 * n * n),
@@ -35,23 +47,38 @@ impl Operands {
 
     fn on_bytes(&self) -> Outcome {
         let mut lent = self.lent.clone();
-        let answer = port::factor_bytes(self.method, &self.a, self.n, &mut lent);
+        let (method, a, n) = (self.method, &self.a, self.n);
+        let answer = match &self.numbers {
+            None => port::factor_bytes(method, a, n, &mut lent),
+            Some(numbers) => port::factor_numbered_bytes(method, a, n, numbers, &mut lent),
+        };
         outcome(answer, &lent)
     }
 
-    /// Nothing if an operand is no whole number of doubles.
+    fn has_whole_elements(&self) -> bool {
+        let Buffers { l, work, e, .. } = &self.lent;
+        let numbers = self.numbers.as_deref().unwrap_or_default();
+        numbers.len() % 4 == 0 && [&self.a, l, work, e].iter().all(|x| x.len() % 8 == 0)
+    }
+
+    /// Nothing if an operand is no whole number of doubles, or of numbers.
     fn on_doubles(&self) -> Option<Outcome> {
-        let Buffers { l, work, e, p } = &self.lent;
-        if [&self.a, l, work, e].iter().any(|x| x.len() % 8 != 0) {
+        if !self.has_whole_elements() {
             return None;
         }
+        let Buffers { l, work, e, p } = &self.lent;
         let mut lent = Buffers {
             l: doubles(l),
             work: doubles(work),
             e: doubles(e),
             p: p.iter().map(|&row| row.into()).collect(),
         };
-        let answer = port::factor_doubles(self.method, &doubles(&self.a), self.n, &mut lent);
+        let (method, a, n) = (self.method, &doubles(&self.a), self.n);
+        let numbers = self.numbers.as_deref().map(words);
+        let answer = match numbers {
+            None => port::factor_doubles(method, a, n, &mut lent),
+            Some(numbers) => port::factor_numbered_doubles(method, a, n, &numbers, &mut lent),
+        };
         let Buffers { l, work, e, p } = lent;
         let (l, work, e) = (bytes(&l), bytes(&work), bytes(&e));
         Some(outcome(answer, &Buffers { l, work, e, p }))
@@ -62,6 +89,10 @@ impl Operands {
         checks::method(self.method)?;
         checks::size(n)?;
         checks::matrix_length(&self.a, n)?;
+        if let Some(numbers) = &self.numbers {
+            checks::numbers_length(numbers, n)?;
+            checks::distinct(&words(numbers))?;
+        }
         checks::buffer_length(&lent.l, 8 * n * n)?;
         checks::buffer_length(&lent.work, 8 * n * n)?;
         checks::buffer_length(&lent.e, 8 * n)?;
@@ -78,9 +109,13 @@ impl Operands {
         left: &Buffers<u8, P>,
     ) -> Vec<Called> {
         let wanted = || outcome(answer, left);
-        let on_bytes = called("factor_bytes", self.on_bytes(), wanted());
+        let [bytes, doubles] = match self.numbers {
+            None => ["factor_bytes", "factor_doubles"],
+            Some(_) => ["factor_numbered_bytes", "factor_numbered_doubles"],
+        };
+        let on_bytes = called(bytes, self.on_bytes(), wanted());
         let on_doubles = self.on_doubles();
-        let on_doubles = on_doubles.map(|port| called("factor_doubles", port, wanted()));
+        let on_doubles = on_doubles.map(|port| called(doubles, port, wanted()));
         [on_bytes].into_iter().chain(on_doubles).collect()
     }
 }
@@ -99,9 +134,9 @@ fn outcome<P: Copy + Into<usize>>((refusal, marks): Factored, lent: &Buffers<u8,
     }
 }
 
-/// On the matrix of a run, with the oracle's answer to it.
-pub fn accepted(case: &Case, reply: &Reply) -> Vec<Called> {
-    let n = case.n;
+/// On the operands of a run, with the oracle's answer to it.
+pub fn accepted(operands: &Operands, reply: &Reply) -> Vec<Called> {
+    let n = operands.n;
     let mark = |step: Option<usize>| step.unwrap_or(NONE);
     let marks = [mark(reply.tied), mark(reply.phase_two)];
     let (l, e, p) = match &reply.outcome {
@@ -109,12 +144,11 @@ pub fn accepted(case: &Case, reply: &Reply) -> Vec<Called> {
         Err(_) => (vec![0; 8 * n * n], vec![0; 8 * n], (0..n).collect()),
     };
     let work = vec![0; 8 * n * n];
-    Operands::new(case).called((refusal(reply), marks), &Buffers { l, work, e, p })
+    operands.called((refusal(reply), marks), &Buffers { l, work, e, p })
 }
 
 /// With one or two operands changed; nothing if they are accepted all the same.
-pub fn refused(case: &Case, rng: &mut Rng) -> Vec<Called> {
-    let mut operands = Operands::new(case);
+pub fn refused(mut operands: Operands, rng: &mut Rng) -> Vec<Called> {
     for _ in 0..1 + rng.below(2) {
         change(&mut operands, rng);
     }
@@ -125,6 +159,11 @@ pub fn refused(case: &Case, rng: &mut Rng) -> Vec<Called> {
 }
 
 fn change(operands: &mut Operands, rng: &mut Rng) {
+    if let Some(numbers) = &mut operands.numbers {
+        if rng.below(3) == 0 {
+            return change_numbers(numbers, rng);
+        }
+    }
     let n = operands.n;
     let lent = &mut operands.lent;
     match rng.below(9) {
@@ -137,6 +176,26 @@ fn change(operands: &mut Operands, rng: &mut Rng) {
         6 => resize(&mut lent.p, 5, rng),
         7 => change_entry(&mut operands.a, |_, rng| not_finite(rng), rng),
         _ => change_entry(&mut operands.a, |x, _| -x, rng),
+    }
+}
+
+/// Another length, or a number that stands there twice.
+fn change_numbers(numbers: &mut Vec<u8>, rng: &mut Rng) {
+    let len = numbers.len();
+    if rng.coin() {
+        let lengths = [
+            0,
+            len.saturating_sub(1),
+            len + 1,
+            len.saturating_sub(4),
+            len + 4,
+        ];
+        return numbers.resize(rng.pick(&lengths), 5);
+    }
+    let count = len / 4;
+    if count > 0 {
+        let (from, to) = (4 * rng.below(count), 4 * rng.below(count));
+        numbers.copy_within(from..from + 4, to);
     }
 }
 
@@ -158,21 +217,44 @@ mod tests {
     use oracle::record::{matrix_record, reply};
     use std::collections::BTreeSet;
 
-    #[test]
-    fn every_refusal_of_both_calls_occurs() {
-        let mut seen: BTreeSet<(&str, usize)> = BTreeSet::new();
+    /// What occurs of 1000 operands.
+    fn seen(
+        operands: impl Fn(u64, &mut Rng) -> (Operands, Reply),
+    ) -> BTreeSet<(&'static str, usize)> {
+        let mut seen = BTreeSet::new();
         for index in 0..1000 {
             let mut rng = Rng::new(1, index);
-            let case = draw::case(index, &mut rng);
-            let reply = reply(&matrix_record(case.method, case.n as u8, &case.matrix));
-            for called in [accepted(&case, &reply), refused(&case, &mut rng)].concat() {
+            let (operands, reply) = operands(index, &mut rng);
+            for called in [accepted(&operands, &reply), refused(operands, &mut rng)].concat() {
                 assert_eq!(called.difference, None);
                 seen.insert((called.call, called.refusal));
             }
         }
+        seen
+    }
+
+    #[test]
+    fn every_refusal_of_both_calls_occurs() {
+        let seen = seen(|index, rng| {
+            let case = draw::case(index, rng);
+            let record = matrix_record(case.method, case.n as u8, &case.matrix);
+            (Operands::of_case(&case), reply(&record))
+        });
         let all = ["factor_bytes", "factor_doubles"]
             .iter()
             .flat_map(|&call| [0, 2, 3, 4, 5, 7, 8, 9].map(|refusal| (call, refusal)));
+        assert_eq!(seen, all.collect());
+    }
+
+    #[test]
+    fn every_refusal_of_both_numbered_calls_occurs() {
+        let seen = seen(|index, rng| {
+            let made = Numbered::of_case(&draw::case(index, rng), rng);
+            (Operands::numbered(&made), reply(&made.record()))
+        });
+        let all = ["factor_numbered_bytes", "factor_numbered_doubles"]
+            .iter()
+            .flat_map(|&call| [0, 2, 3, 4, 5, 7, 8, 9, 12, 13].map(|refusal| (call, refusal)));
         assert_eq!(seen, all.collect());
     }
 }

@@ -1,4 +1,5 @@
-//! The port's answers beside those of the listed Rust, and of document 01's checks, at scale.
+//! The port's answers beside those of the listed Rust, where there are contract numbers of the second
+//! implementation, and of documents 01's and 02's checks, at scale.
 
 mod answer;
 mod broken;
@@ -8,6 +9,8 @@ mod draw;
 mod factor;
 mod last_block;
 mod load_order;
+mod numbered;
+mod numbered_report;
 mod operands;
 mod port;
 mod records;

@@ -1,10 +1,12 @@
-//! The port's answers to a matrix and to its reloading by s. docs/DECISIONS.md, 'Load order', says
-//! which parts are alike, and when.
+//! The port's answers to a matrix and to its reloading by s, without numbers and with. docs/DECISIONS.md,
+//! 'Load order', says which parts are alike, and when.
 
 use crate::answer::{read, Answer, NONE};
 use crate::records;
 use oracle::generate::Case;
+use oracle::numbered::Numbered;
 use oracle::record::matrix_record;
+use oracle::GMW81;
 
 /// How much of a pair of answers must be alike.
 #[derive(Clone, Copy, Debug, PartialEq, Eq, PartialOrd, Ord)]
@@ -28,6 +30,15 @@ pub fn alike(answer: &Answer) -> Alike {
     }
 }
 
+/// With numbers, ties included: GMW81 is alike in all, and so are SE90 and SE99 where no second phase
+/// begins; else their tied and phase-two steps are.
+pub fn alike_by_number(method: u8, answer: &Answer) -> Alike {
+    match (method, answer.phase_two) {
+        (GMW81, _) | (_, NONE) => Alike::Complete,
+        _ => Alike::PhaseTwo,
+    }
+}
+
 /// Row i of the result is row s[i].
 fn reloaded(n: usize, matrix: &[f64], s: &[usize]) -> Vec<f64> {
     let row = |i: usize| (0..n).map(move |j| matrix[s[i] * n + s[j]]);
@@ -39,14 +50,23 @@ pub fn check(case: &Case, s: &[usize], first: &Answer) -> (Alike, Option<String>
     let matrix = reloaded(case.n, &case.matrix, s);
     let record = matrix_record(case.method, case.n as u8, &matrix);
     let wanted = alike(first);
-    let unlike = match read(&records::answer(&record)) {
-        None => Some("no answer record".into()),
-        Some(second) => unlike(wanted, s, first, &second).map(str::to_string),
+    (wanted, unlike_answer(wanted, s, first, &record))
+}
+
+/// The same with numbers, which move with their contracts.
+pub fn check_numbered(made: &Numbered, s: &[usize], first: &Answer) -> (Alike, Option<String>) {
+    let wanted = alike_by_number(made.method, first);
+    let record = made.reloaded(s).record();
+    (wanted, unlike_answer(wanted, s, first, &record))
+}
+
+/// Of the answer to the record of the reloading.
+fn unlike_answer(wanted: Alike, s: &[usize], first: &Answer, record: &[u8]) -> Option<String> {
+    let unlike = match read(&records::answer(record)) {
+        None => Some("no answer record"),
+        Some(second) => unlike(wanted, s, first, &second),
     };
-    (
-        wanted,
-        unlike.map(|part| format!("reloaded by {s:?}: {part}")),
-    )
+    unlike.map(|part| format!("reloaded by {s:?}: {part}"))
 }
 
 fn unlike(wanted: Alike, s: &[usize], first: &Answer, second: &Answer) -> Option<&'static str> {
@@ -131,6 +151,18 @@ mod tests {
             unlike(Alike::Tied, &S, &tied(0), &tied(1)),
             Some("tied step")
         );
+    }
+
+    #[test]
+    fn numbers_settle_ties_but_not_the_sums_of_phase_two() {
+        let tied = |phase_two: u8| Answer {
+            tied: 0,
+            phase_two,
+            ..first()
+        };
+        assert_eq!(alike_by_number(GMW81, &tied(NONE)), Alike::Complete);
+        assert_eq!(alike_by_number(2, &tied(NONE)), Alike::Complete);
+        assert_eq!(alike_by_number(3, &tied(1)), Alike::PhaseTwo);
     }
 
     #[test]

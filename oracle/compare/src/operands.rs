@@ -63,6 +63,12 @@ pub fn doubles(bytes: &[u8]) -> Vec<f64> {
     bytes.chunks_exact(8).map(double).collect()
 }
 
+/// The whole numbers of four bytes.
+pub fn words(bytes: &[u8]) -> Vec<u32> {
+    let word = |chunk: &[u8]| u32::from_le_bytes(chunk.try_into().expect("chunks have 4 bytes"));
+    bytes.chunks_exact(4).map(word).collect()
+}
+
 /// Of one sort or of all, and now and then with an infinity or NaN.
 pub fn list(len: usize, rng: &mut Rng) -> Vec<f64> {
     let sort = rng.below(SORTS + 2);

@@ -79,6 +79,60 @@ pub fn factor_doubles(
     })
 }
 
+pub fn factor_numbered_bytes(
+    method: usize,
+    a: &[u8],
+    n: usize,
+    numbers: &[u8],
+    lent: &mut Buffers<u8, u8>,
+) -> Factored {
+    factored(unsafe {
+        ffi::millracer_factor_numbered_bytes(
+            method,
+            a.as_ptr(),
+            a.len(),
+            n,
+            numbers.as_ptr(),
+            numbers.len(),
+            lent.l.as_mut_ptr(),
+            lent.l.len(),
+            lent.work.as_mut_ptr(),
+            lent.work.len(),
+            lent.e.as_mut_ptr(),
+            lent.e.len(),
+            lent.p.as_mut_ptr(),
+            lent.p.len(),
+        )
+    })
+}
+
+pub fn factor_numbered_doubles(
+    method: usize,
+    a: &[f64],
+    n: usize,
+    numbers: &[u32],
+    lent: &mut Buffers<f64, usize>,
+) -> Factored {
+    factored(unsafe {
+        ffi::millracer_factor_numbered_doubles(
+            method,
+            a.as_ptr(),
+            a.len(),
+            n,
+            numbers.as_ptr(),
+            numbers.len(),
+            lent.l.as_mut_ptr(),
+            lent.l.len(),
+            lent.work.as_mut_ptr(),
+            lent.work.len(),
+            lent.e.as_mut_ptr(),
+            lent.e.len(),
+            lent.p.as_mut_ptr(),
+            lent.p.len(),
+        )
+    })
+}
+
 pub fn sqrt(x: f64) -> (Refusal, f64) {
     let answer = unsafe { ffi::millracer_sqrt(x) };
     (refusal(answer.refusal), answer.value)

@@ -19,7 +19,7 @@ pub fn answer(record: &[u8]) -> Vec<u8> {
 pub const OTHER_LENGTHS: [usize; 3] = [0, LONGEST_ANSWER - 1, LONGEST_ANSWER + 1];
 
 /// The refusals that come before 5.
-const BEFORE_BUFFER: &[usize] = &[1, 10, 11, 2, 3, 4];
+const BEFORE_BUFFER: &[usize] = &[1, 10, 11, 2, 3, 4, 12, 13];
 
 /// On a buffer of its own length, and now and then on one of another.
 pub fn calls(record: &[u8], reply: &Reply, rng: &mut Rng) -> Vec<Called> {
@@ -88,13 +88,16 @@ mod tests {
     fn every_refusal_of_a_record_occurs() {
         let mut rng = Rng::new(1, 0);
         let mut seen: BTreeSet<usize> = BTreeSet::new();
-        for _ in 0..2000 {
-            let record = broken::record(&mut rng);
+        for index in 0..2000 {
+            let record = match index % 2 {
+                0 => broken::record(&mut rng),
+                _ => broken::numbered(&mut rng),
+            };
             for called in calls(&record, &reply(&record), &mut rng) {
                 assert_eq!(called.difference, None);
                 seen.insert(called.refusal);
             }
         }
-        assert_eq!(seen, BTreeSet::from([0, 1, 2, 3, 4, 5, 7, 8, 9, 10, 11]));
+        assert!(seen.into_iter().eq((0..=5).chain(7..=13)));
     }
 }

@@ -2,6 +2,7 @@
 
 use crate::calls::Called;
 use crate::load_order::Alike;
+use crate::numbered_report::NumberedReport;
 use crate::small;
 use oracle::generate::Case;
 use oracle::record::{Reply, PAST_END, TAG_NOT_DUE};
@@ -26,7 +27,7 @@ struct Row {
 }
 
 /// Each small record is asked for on two buffers.
-const SMALL_DUE: usize = 2 * small::COUNT;
+const SMALL_DUE: usize = 2 * (small::COUNT + small::NUMBERED_COUNT);
 
 /// A refusal's number, and the field if it has one.
 type Kind = (u8, Option<u8>);
@@ -41,6 +42,7 @@ pub struct Report {
     small_comparisons: usize,
     calls: BTreeMap<&'static str, BTreeMap<usize, u64>>,
     pairs: BTreeMap<Alike, u64>,
+    pub numbered: NumberedReport,
     /// Where the first was, and how many.
     differences: Option<(String, usize)>,
 }
@@ -57,6 +59,7 @@ impl Report {
             small_comparisons: 0,
             calls: BTreeMap::new(),
             pairs: BTreeMap::new(),
+            numbered: NumberedReport::new(),
             differences: None,
         }
     }
@@ -101,7 +104,15 @@ impl Report {
 
     /// Also if a comparison is missing.
     pub fn differs(&self) -> bool {
-        self.differences.is_some() || self.small_comparisons != SMALL_DUE
+        self.differences.is_some() || self.missing().is_some()
+    }
+
+    /// What wasn't compared and should have been.
+    fn missing(&self) -> Option<String> {
+        match self.small_comparisons == SMALL_DUE {
+            true => self.numbered.missing(),
+            false => Some("every small broken record".into()),
+        }
     }
 
     pub fn has_enough(&self) -> bool {
@@ -191,6 +202,7 @@ impl fmt::Display for Report {
     fn fmt(&self, f: &mut fmt::Formatter) -> fmt::Result {
         self.runs(f)?;
         self.pairs(f)?;
+        write!(f, "{}", self.numbered)?;
         writeln!(
             f,
             "last blocks on which SE90 and SE99 differ: {}",
@@ -210,8 +222,8 @@ impl fmt::Display for Report {
         writeln!(f, "{} runs in {seconds:.1} s", self.total())?;
         if let Some((first, _)) = &self.differences {
             writeln!(f, "first difference at {first}")?;
-        } else if self.differs() {
-            writeln!(f, "not every small broken record was compared")?;
+        } else if let Some(missing) = self.missing() {
+            writeln!(f, "not compared: {missing}")?;
         }
         writeln!(f, "{} differences", self.count())
     }
@@ -225,6 +237,9 @@ mod tests {
     fn a_missing_comparison_is_no_agreement() {
         let report = Report::new();
         assert!(report.differs());
-        assert!(report.to_string().contains("not every small broken record"));
+        let words = report.to_string();
+        assert!(words.contains("\nnot compared: every small broken record\n"));
+        let numbered = report.numbered.missing().unwrap();
+        assert_eq!(numbered, "0 numbered matrices of 1512");
     }
 }

@@ -1,11 +1,14 @@
 //! A comparison, index by index, then of every small broken record.
 
 use crate::calls::Called;
+use crate::factor::{self, Operands};
 use crate::report::Report;
-use crate::{answer, broken, calls, draw, factor, last_block, load_order, records, small};
+use crate::{answer, broken, calls, draw, last_block, load_order, numbered, records, small};
 use oracle::generate::rng::Rng;
 use oracle::generate::Case;
-use oracle::record::{matrix_record, reply, Reply};
+use oracle::numbered::list;
+use oracle::record::{matrix_record, replied, reply, Reply};
+use oracle::second;
 use oracle::table::NAMES;
 use oracle::{SE90, SE99};
 use std::ops::Range;
@@ -19,13 +22,35 @@ pub fn compare(seed: u64, indexes: Range<u64>) -> Report {
             return report;
         }
     }
-    for (number, record) in small::records().iter().enumerate() {
-        let found = small_record(number, record, &mut report);
-        if told(&format!("small record {number}"), found, &mut report) {
-            return report;
-        }
-    }
+    numbered_list(&mut report);
+    small_records(&mut report);
     report
+}
+
+/// Matrices with numbers of every sort, method and n.
+fn numbered_list(report: &mut Report) {
+    for (number, (sort, made)) in list().iter().enumerate() {
+        if report.has_enough() {
+            return;
+        }
+        let found = numbered::compare(made, &mut Rng::new(0, number as u64), report);
+        report.numbered.listed();
+        let at = format!("numbered matrix {number}");
+        let name = NAMES[usize::from(made.method) - 1];
+        let said = |words: String| format!("{at}, {name} n {} {sort:?}: {words}", made.n);
+        told(&at, found.into_iter().map(said).collect(), report);
+    }
+}
+
+fn small_records(report: &mut Report) {
+    let all = small::records().into_iter().chain(small::numbered());
+    for (number, record) in all.enumerate() {
+        if report.has_enough() {
+            return;
+        }
+        let found = small_record(number, &record, report);
+        told(&format!("small record {number}"), found, report);
+    }
 }
 
 /// Whether there are enough differences.
@@ -44,8 +69,10 @@ fn compare_one(seed: u64, index: u64, report: &mut Report) -> Vec<String> {
     let found = [
         factorization(&case, &mut rng, report),
         last_block(&mut rng, report),
-        broken_record(&mut rng, report),
+        broken_record(broken::record(&mut rng), &mut rng, report),
         helpers(&mut rng, report),
+        with_numbers(&case, &mut rng, report),
+        broken_record(broken::numbered(&mut rng), &mut rng, report),
     ];
     let name = NAMES[usize::from(case.method) - 1];
     let at = format!(
@@ -63,9 +90,13 @@ fn factorization(case: &Case, rng: &mut Rng, report: &mut Report) -> Vec<String>
         None => found.push("the oracle panicked".to_string()),
         Some(reply) => {
             report.run(case, &reply);
+            found.extend(second_implementation(case, &reply));
             found.extend(noted(records::calls(&record, &reply, rng), report));
-            found.extend(noted(factor::accepted(case, &reply), report));
-            found.extend(noted(factor::refused(case, rng), report));
+            found.extend(noted(
+                factor::accepted(&Operands::of_case(case), &reply),
+                report,
+            ));
+            found.extend(noted(factor::refused(Operands::of_case(case), rng), report));
         }
     }
     if let Some(first) = answer::read(&records::answer(&record)) {
@@ -76,13 +107,28 @@ fn factorization(case: &Case, rng: &mut Rng, report: &mut Report) -> Vec<String>
     found
 }
 
+/// Where it differs from the Rust, without numbers.
+fn second_implementation(case: &Case, reply: &Reply) -> Option<String> {
+    let second = second::factor(case.method, case.n, &case.matrix, None);
+    let second = replied((case.method, case.n as u8), second);
+    let difference = answer::difference(&second.record(), &reply.record());
+    difference.map(|words| format!("second implementation for the port: {words}"))
+}
+
+fn with_numbers(case: &Case, rng: &mut Rng, report: &mut Report) -> Vec<String> {
+    let made = numbered::draw(case, rng);
+    let found = numbered::compare(&made, rng, report);
+    let said = |words: String| format!("numbered: {words}");
+    found.into_iter().map(said).collect()
+}
+
 /// Nothing if the oracle has no answer of document 01.
 fn answered(record: &[u8]) -> Option<Reply> {
     catch_unwind(|| reply(record)).ok()
 }
 
 /// The differences.
-fn noted(made: impl IntoIterator<Item = Called>, report: &mut Report) -> Vec<String> {
+pub fn noted(made: impl IntoIterator<Item = Called>, report: &mut Report) -> Vec<String> {
     let noted = made.into_iter().inspect(|called| report.call(called));
     noted.filter_map(|called| called.difference).collect()
 }
@@ -102,8 +148,7 @@ fn last_block(rng: &mut Rng, report: &mut Report) -> Vec<String> {
         .collect()
 }
 
-fn broken_record(rng: &mut Rng, report: &mut Report) -> Vec<String> {
-    let broken = broken::record(rng);
+fn broken_record(broken: Vec<u8>, rng: &mut Rng, report: &mut Report) -> Vec<String> {
     let (reply, found) = record(&broken, rng, report);
     if let Some(reply) = reply {
         report.broken(&reply);
@@ -135,7 +180,7 @@ fn shown(record: &[u8]) -> String {
 }
 
 /// The oracle's answer, and the differences.
-fn record(record: &[u8], rng: &mut Rng, report: &mut Report) -> (Option<Reply>, Vec<String>) {
+pub fn record(record: &[u8], rng: &mut Rng, report: &mut Report) -> (Option<Reply>, Vec<String>) {
     match answered(record) {
         None => (None, vec!["the oracle panicked".into()]),
         Some(reply) => {
@@ -159,7 +204,7 @@ mod tests {
         assert!(!report.differs());
         let words = report.to_string();
         assert!(words.ends_with("\n0 differences\n"));
-        assert!(words.contains("\nsmall broken records: 56862 of 56862 comparisons, "));
+        assert!(words.contains("\nsmall broken records: 168778 of 168778 comparisons, "));
     }
 
     /// A difference can be repeated by its seed and index alone.

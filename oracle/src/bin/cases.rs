@@ -1,15 +1,20 @@
 //! `cases COUNT MAXN SEED` prints one line for each case, its parts separated by single spaces:
 //!
-//!     method n tied phase_two refusal step A p e L
+//!     method n tied phase_two refusal step count numbers A p e L
 //!
 //! tied and phase_two are 255 for none. refusal is 0 or 9, and step is the refused step, 0 in a
-//! complete run. A is the matrix, n * n entries by rows; p has n numbers; e has n entries; L has
-//! n * n by rows. Entries are the 16 hexadecimal digits of a double's bits. After a refusal p, e
-//! and L are its fillings. A table of what occurred goes to standard error.
+//! complete run. count is 0, and there are no numbers. A is the matrix, n * n entries by rows; p has n
+//! numbers; e has n entries; L has n * n by rows. Entries are the 16 hexadecimal digits of a double's
+//! bits. After a refusal p, e and L are its fillings. A table of what occurred goes to standard error.
+//!
+//! `cases COUNT MAXN SEED numbered` prints matrices with ties and contract numbers, count of them, and the
+//! second implementation's answers.
 
-use oracle::generate::{cases, Case};
+use oracle::generate::cases;
+use oracle::generate::rng::Rng;
+use oracle::numbered::{Numbered, TYING};
 use oracle::table::{report, Run};
-use oracle::{factor, Answer, COMPLETE};
+use oracle::{factor, second, Answer, COMPLETE, GMW81};
 use std::fmt::Display;
 use std::io::{self, BufWriter, Write};
 use std::process::ExitCode;
@@ -17,52 +22,89 @@ use std::process::ExitCode;
 const NONE: usize = 255;
 
 fn main() -> ExitCode {
-    let given: Vec<u64> = std::env::args()
-        .skip(1)
-        .filter_map(|arg| arg.parse().ok())
-        .collect();
+    let mut words: Vec<String> = std::env::args().skip(1).collect();
+    let numbered = words.get(3).is_some_and(|word| word == "numbered");
+    if numbered {
+        words.pop();
+    }
+    let given: Vec<Option<usize>> = words.iter().map(|word| word.parse().ok()).collect();
     match given[..] {
-        [count, max_n @ 1..=48, seed] if std::env::args().len() == 4 => {
-            print(count as usize, max_n as usize, seed).expect("standard output is open");
+        [Some(count), Some(max_n @ 1..=48), Some(seed)] => {
+            let all = match numbered {
+                false => plain(count, max_n, seed as u64),
+                true => with_numbers(count, max_n, seed as u64),
+            };
+            print(&all).expect("standard output is open");
             ExitCode::SUCCESS
         }
         _ => {
-            eprintln!("usage: cases COUNT MAXN SEED, with MAXN from 1 to 48");
+            eprintln!("usage: cases COUNT MAXN SEED [numbered], with MAXN from 1 to 48");
             ExitCode::from(2)
         }
     }
 }
 
-fn print(count: usize, max_n: usize, seed: u64) -> io::Result<()> {
-    let mut out = BufWriter::new(io::stdout().lock());
-    let mut runs = Vec::new();
-    for case in cases(count, max_n, seed) {
+/// A matrix, which has no numbers where their list is empty, and its answer.
+type Answered = (Numbered, Answer);
+
+fn plain(count: usize, max_n: usize, seed: u64) -> Vec<Answered> {
+    let answered = cases(count, max_n, seed).map(|case| {
         let answer = factor(case.method, case.n, &case.matrix);
-        writeln!(out, "{}", line(&case, &answer))?;
-        runs.push(run(&case, &answer));
+        let made = Numbered {
+            method: case.method,
+            n: case.n,
+            matrix: case.matrix,
+            numbers: vec![],
+        };
+        (made, answer)
+    });
+    answered.collect()
+}
+
+/// The methods take turns, and with each the sorts.
+fn with_numbers(count: usize, max_n: usize, seed: u64) -> Vec<Answered> {
+    let answered = (0..count).map(|index| {
+        let mut rng = Rng::new(seed, index as u64);
+        let (method, sort) = (GMW81 + (index % 3) as u8, TYING[index / 3 % TYING.len()]);
+        let n = 1 + rng.below(max_n);
+        let made = Numbered::new(sort, method, n, &mut rng);
+        let answer = second::factor(method, n, &made.matrix, Some(&made.numbers));
+        (made, answer)
+    });
+    answered.collect()
+}
+
+fn print(all: &[Answered]) -> io::Result<()> {
+    let mut out = BufWriter::new(io::stdout().lock());
+    for (made, answer) in all {
+        writeln!(out, "{}", line(made, answer))?;
     }
     out.flush()?;
-    report(&runs);
+    let runs = all.iter().map(|(made, answer)| run(made, answer));
+    report(&runs.collect::<Vec<Run>>());
     Ok(())
 }
 
-fn line(case: &Case, answer: &Answer) -> String {
+fn line(made: &Numbered, answer: &Answer) -> String {
     let mark = |step: Option<usize>| step.unwrap_or(NONE);
     let head = [
-        case.method.into(),
-        case.n,
+        made.method.into(),
+        made.n,
         mark(answer.tied),
         mark(answer.phase_two),
         answer.refusal.into(),
         answer.step,
+        made.numbers.len(),
     ];
     let parts = [
         joined(head),
-        joined(bits(&case.matrix)),
+        joined(&made.numbers),
+        joined(bits(&made.matrix)),
         joined(&answer.p),
         joined(bits(&answer.e)),
         joined(bits(&answer.l)),
     ];
+    let parts: Vec<String> = parts.into_iter().filter(|part| !part.is_empty()).collect();
     parts.join(" ")
 }
 
@@ -75,10 +117,10 @@ fn joined(list: impl IntoIterator<Item = impl Display>) -> String {
     words.join(" ")
 }
 
-fn run(case: &Case, answer: &Answer) -> Run {
+fn run(made: &Numbered, answer: &Answer) -> Run {
     Run {
-        method: case.method,
-        n: case.n,
+        method: made.method,
+        n: made.n,
         refused: (answer.refusal != COMPLETE).then_some(answer.step),
         tied: answer.tied,
         phase_two: answer.phase_two,

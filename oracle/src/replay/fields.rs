@@ -123,10 +123,11 @@ fn cut_after_length() -> Vec<Vec<u8>> {
     [later(0), later(1)].concat()
 }
 
-/// Every one that isn't due.
+/// Every one that isn't due; before the entries 04 is.
 fn tags() -> Vec<Vec<u8>> {
+    let due = |field: usize, tag: u8| tag == DUE[field] || (field == 2 && tag == 0x04);
     let others = |field| {
-        let tags = (0..=255).filter(move |tag| *tag != DUE[field]);
+        let tags = (0..=255).filter(move |tag| !due(field, *tag));
         tags.map(move |tag| with_tag(field, tag))
     };
     (0..DUE.len()).flat_map(others).collect()

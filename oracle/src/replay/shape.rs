@@ -1,7 +1,7 @@
 //! Refusals 2 to 4: a record's method, n and length of field 03.
 
 use super::{of_kind, Entry};
-use crate::record::{bytes, matrix_record, sized_record, LONGEST};
+use crate::record::{bytes, matrix_record, sized_record, LONGEST, MAX_N};
 use crate::{GMW81, SE90, SE99};
 
 pub const ORDER: &str = "order of checks 10, 11, 1 to 4";
@@ -16,6 +16,9 @@ pub fn all() -> Vec<Entry> {
     .concat()
 }
 
+/// Bytes of the entries of 48 rows.
+const MOST: usize = 8 * (MAX_N as usize).pow(2);
+
 /// Field 03 has `length` bytes, from the entries 1.0.
 fn with_length(method: u8, n: u8, length: usize) -> Vec<u8> {
     let content = bytes(&vec![1.0; length.div_ceil(8)]);
@@ -28,12 +31,13 @@ fn methods() -> Vec<Vec<u8>> {
         .to_vec()
 }
 
-/// At n = 128, 8 * n * n is 0 in sixteen bits. The longest record comes with n = 49.
+/// At n = 128, 8 * n * n is 0 in sixteen bits. Entries of 48 rows and the longest record come with n = 49.
 fn sizes() -> Vec<Vec<u8>> {
     let given = [
         (0, 0),
         (0, 8),
         (49, 8),
+        (49, MOST),
         (49, LONGEST - 11),
         (128, 0),
         (255, 8),
@@ -45,7 +49,6 @@ fn sizes() -> Vec<Vec<u8>> {
 
 /// At n = 16, n * n is 0 in eight bits.
 fn lengths() -> Vec<Vec<u8>> {
-    let longest = LONGEST - 11;
     let given = [
         (GMW81, 1, 0),
         (SE90, 1, 7),
@@ -60,8 +63,8 @@ fn lengths() -> Vec<Vec<u8>> {
         (GMW81, 16, 0),
         (SE90, 48, 0),
         (SE99, 48, 8 * 47 * 47),
-        (GMW81, 48, longest - 1),
-        (SE90, 47, longest),
+        (GMW81, 48, MOST - 1),
+        (SE90, 47, MOST),
     ];
     given
         .map(|(m, n, length)| with_length(m, n, length))

@@ -2,7 +2,8 @@ use super::phase_one::{phase_one, Test, TAU};
 use super::*;
 use crate::generate::symmetric::Symmetric;
 use crate::generate::KINDS;
-use crate::record::{checked, Input, LONGEST};
+use crate::record::{checked, replied, Input, LONGEST};
+use crate::second::{judged, Judged};
 use crate::{factor, Answer, GMW81, NOT_FINITE, SE90, SE99};
 use std::collections::{BTreeMap, BTreeSet};
 use std::sync::LazyLock;
@@ -41,10 +42,10 @@ fn the_list_is_the_same_again_and_of_its_size() {
     for ((entry, _), other) in CASES.iter().zip(&again) {
         assert_eq!((&entry.kind, &entry.record), (&other.kind, &other.record));
     }
-    assert!((1300..=1500).contains(&again.len()), "{}", again.len());
+    assert!((1700..=2000).contains(&again.len()), "{}", again.len());
     let framed = |(entry, reply): &(Entry, Reply)| framed(&entry.record, &reply.record()).len();
     let bytes: usize = CASES.iter().map(framed).sum();
-    assert!(bytes < 1_300_000, "{bytes}");
+    assert!(bytes < 1_700_000, "{bytes}");
 }
 
 #[test]
@@ -57,7 +58,7 @@ fn kinds_named_by_a_refusal_have_it() {
             seen.insert(number);
         }
     }
-    assert!(seen.into_iter().eq([1, 2, 3, 4, 7, 8, 9, 10, 11]));
+    assert!(seen.into_iter().eq([1, 2, 3, 4, 7, 8, 9, 10, 11, 12, 13]));
 }
 
 #[test]
@@ -92,9 +93,10 @@ fn every_tag_stands_at_every_field() {
         .map(|(record, (_, field, _))| (field, record[4 * usize::from(field)]))
         .collect();
     let all = (0..3).flat_map(|field| (0..=255).map(move |tag| (field, tag)));
+    let due = [(0, 1), (1, 2), (2, 3), (2, 4)];
     assert!(seen
         .into_iter()
-        .eq(all.filter(|(field, tag)| field + 1 != *tag)));
+        .eq(all.filter(|at: &(u8, u8)| !due.contains(at))));
 }
 
 /// How often a kind has each field as its place.
@@ -202,6 +204,86 @@ fn a_refused_run_keeps_its_tie_and_its_phase() {
         assert_eq!((reply.tied, reply.phase_two), (Some(0), phase_two));
         assert_eq!(reply.outcome.unwrap_err().place, [2, 0]);
     }
+}
+
+#[test]
+fn numbers_are_checked_in_order() {
+    let wanted = [2, 3, 3, 4].map(|number| (number, 0, 0));
+    let later = [(12, 0, 0), (13, 1, 0), (7, 0, 0), (8, 0, 1)];
+    assert_eq!(refusals(numbered::ORDER), [wanted, later].concat());
+    let places = numbered::repeats().into_iter().map(|(_, at)| (13, at, 0));
+    assert!(refusals(numbered::REPEATED).into_iter().eq(places));
+}
+
+#[test]
+fn a_numbered_record_is_cut_and_tagged_at_every_byte() {
+    let fields: BTreeSet<(u8, u8)> = refusals(numbered::CUT)
+        .into_iter()
+        .map(|(number, field, _)| (number, field))
+        .collect();
+    assert_eq!(fields, BTreeSet::from([(10, 2), (10, 3)]));
+    assert_eq!(records(numbered::CUT).len(), 17 + 10 + 45);
+    assert_eq!(refusals(numbered::TAGS), [(11, 3, 0); 255]);
+    let orders = refusals(numbered::ORDERS).into_iter().map(|r| r.1);
+    assert!(orders.eq([0, 1, 3, 1, 0, 2, 2, 3]));
+}
+
+/// What the second implementation found of the numbered records of a kind.
+fn judged_of(kind: &str) -> Vec<(Input, Judged)> {
+    let judged = |input: Input| {
+        let numbers = input.numbers.as_deref();
+        let found = judged(input.method, input.n.into(), &input.matrix, numbers);
+        (input, found)
+    };
+    inputs(kind).into_iter().map(judged).collect()
+}
+
+#[test]
+fn ties_are_settled_by_number() {
+    let all = judged_of(numbered::TIES);
+    let settled = |method: u8, count: fn(&Judged) -> usize| {
+        let own = all.iter().filter(|(input, _)| input.method == method);
+        own.filter(|(_, found)| count(found) > 0).count()
+    };
+    assert!((GMW81..=SE99).all(|m| settled(m, |found| found.ties.moved) > 4));
+    assert!([SE90, SE99]
+        .iter()
+        .all(|&m| settled(m, |found| found.ties.moved_unreported) > 2));
+    let smallest = judged_of(numbered::SMALLEST);
+    assert_eq!(smallest.len(), 18);
+    assert!(smallest
+        .iter()
+        .all(|(_, found)| found.answer.tied == Some(1)));
+}
+
+/// Where no tie is settled otherwise than by position, the Rust's answer is the same.
+#[test]
+fn numbers_change_nothing_else() {
+    let mut same = 0;
+    for kind in [numbered::SMALLEST, numbered::TIES, "numbered: generated"] {
+        for (input, found) in judged_of(kind) {
+            if found.ties.moved + found.ties.moved_unreported == 0 {
+                let rust = factor(input.method, input.n.into(), &input.matrix);
+                let header = (input.method, input.n);
+                let [x, y] = [found.answer, rust].map(|answer| replied(header, answer).record());
+                assert_eq!(x, y);
+                same += 1;
+            }
+        }
+    }
+    assert!(same > 15, "{same}");
+}
+
+#[test]
+fn two_loadings_of_numbered_gmw81_are_alike() {
+    let answers: Vec<Answer> = replies(numbered::LOADINGS)
+        .into_iter()
+        .map(|reply| reply.outcome.unwrap())
+        .collect();
+    for pair in answers.chunks(2) {
+        assert_eq!((&pair[0].l, pair[0].tied), (&pair[1].l, pair[1].tied));
+    }
+    assert_eq!(answers.len(), 14);
 }
 
 fn inputs(kind: &str) -> Vec<Input> {

@@ -15,12 +15,12 @@ use Rattle.phase_one.proofs.phase_one.Statement.{statement}
 use Rattle.phase_one.proofs.phase_one.Tie as tie
 
 abbrev Inv-loop : tie.InvT-loop
-Inv-loop v t gamma l₀ p₀ diag₀ n q₀ j₀ l p diag q j =
+Inv-loop v t numbers gamma l₀ p₀ diag₀ n q₀ j₀ l p diag q j =
     (j ≤ n) × (length l ≡ length l₀) × (length p ≡ length p₀) × (length diag ≡ length diag₀)
-    × ((e g : List Float) → state (mirrored n l) e g p q ≡ range 0 j (inPhaseOne v t gamma n) (state (mirrored n l₀) e g p₀ q₀))
+    × ((e g : List Float) → state (mirrored n l) e g p q ≡ range 0 j (inPhaseOne v t numbers gamma n) (state (mirrored n l₀) e g p₀ q₀))
 
 abbrev μ-loop : tie.MeasureT-loop
-μ-loop v t gamma l₀ p₀ diag₀ n q₀ j₀ l p diag q j = n - j
+μ-loop v t numbers gamma l₀ p₀ diag₀ n q₀ j₀ l p diag q j = n - j
 
 loop-holds : tie.Need-loop-holds Inv-loop μ-loop
 loop-holds c = (search needs, refl, refl, refl, λ e g. loop-start _ _ _)
@@ -28,16 +28,16 @@ loop-holds c = (search needs, refl, refl, refl, λ e g. loop-start _ _ _)
 returns : tie.Need-returns Inv-loop μ-loop
 returns c =
     let i = c .before .before .before .loop .inv in
-    λ e g. loop-rest 0 _ _ _ _ _ zero-le (i .0) (i .4 e g) (λ k u w. phase-one-stays _ _ _ _ k _ (sym (c .before .stopped .ensures) ∙ c .if1 .taken)) ∙ sym (phaseOne-is _ _ _ _ _)
+    λ e g. loop-rest 0 _ _ _ _ _ zero-le (i .0) (i .4 e g) (λ k u w. phase-one-stays _ _ _ _ _ k _ (sym (c .before .stopped .ensures) ∙ c .if1 .taken)) ∙ sym (phaseOne-is _ _ _ _ _ _)
 
 loop-again : tie.Need-loop-again Inv-loop μ-loop
 loop-again c =
     let p = c .before .before .before .before .before .before in
     let o = p .before .before .before .before in
-    (search needs, search needs, search needs, search needs, λ e g. loop-turn 0 _ _ _ _ _ zero-le (o .before .before .before .loop .inv .4 e g) (p .phase-one-step .ensures e g ∙ sym (phase-one-goes _ _ _ _ _ _ (sym (o .before .stopped .ensures) ∙ o .if1 .left))))
+    (search needs, search needs, search needs, search needs, λ e g. loop-turn 0 _ _ _ _ _ zero-le (o .before .before .before .loop .inv .4 e g) (p .phase-one-step .ensures e g ∙ sym (phase-one-goes _ _ _ _ _ _ _ (sym (o .before .stopped .ensures) ∙ o .if1 .left))))
 
 returns-2 : tie.Need-returns-2 Inv-loop μ-loop
-returns-2 c = λ e g. loop-end 0 _ _ _ _ _ (c .before .loop .inv .0) (search needs) (c .before .loop .inv .4 e g) ∙ sym (phaseOne-is _ _ _ _ _)
+returns-2 c = λ e g. loop-end 0 _ _ _ _ _ (c .before .loop .inv .0) (search needs) (c .before .loop .inv .4 e g) ∙ sym (phaseOne-is _ _ _ _ _ _)
 
 pub phase-one-spec : {M : Type 1} → statement M
 phase-one-spec = tie.close (tie.spec Inv-loop μ-loop loop-holds (λ c κs. search needs) (λ c. search needs) (λ c. search needs) (λ c. search needs) returns (λ c κs. search needs) (λ c. search needs) (λ c. search needs) loop-again (λ c. search needs) (λ c. search needs) (λ c. search needs) returns-2)

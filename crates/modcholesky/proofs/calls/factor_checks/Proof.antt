@@ -15,7 +15,7 @@ returns c =
     let b = c .before .before in
     refused (links (b .then .ensures) (b .before .before .operand-checks .ensures) (b .before .check-finite .ensures)) (c .before .complete .ensures) _ (c .if1 .taken)
 
-entries : (c : tie.Else1) → let a = c .before .before .before .before .before .before .args in Accepted (operand-checks (a .method) (a .n) (length (a .a .now)) (a .l) (a .work) (a .e) (a .p) then check-finite (a .n) (a .a .now))
+entries : (c : tie.Else1) → let a = c .before .before .before .before .before .before .args in Accepted (operand-checks (a .method) (a .n) (length (a .a .now)) (a .numbering) (a .l) (a .work) (a .e) (a .p) then check-finite (a .n) (a .a .now))
 entries c =
     let b = c .before .before in
     accepted (links (b .then .ensures) (b .before .before .operand-checks .ensures) (b .before .check-finite .ensures)) (c .before .complete .ensures) (c .if1 .left)
@@ -23,7 +23,7 @@ entries c =
 check-symmetric-requires : tie.Need-check-symmetric-requires
 check-symmetric-requires c κs =
     let both = both-accepted _ _ (entries c) in
-    let s = square-operand _ _ _ _ _ _ _ (both .0) in
+    let s = square-operand _ _ _ _ _ _ _ _ (both .0) in
     (s, entries-accepted _ _ s (both .1))
 
 returns-2 : tie.Need-returns-2

@@ -1,12 +1,7 @@
--- `operand_checks` meets its contract: each check's, in turn.
+-- `operand_checks` meets its contract: each check's, handed on.
 use borrow.Author.Needs.{needs}
-use Rattle.methods.specs.Calls.{operand-checks}
 use Rattle.modcholesky.proofs.calls.operand_checks.Statement.{statement}
 use Rattle.modcholesky.proofs.calls.operand_checks.Tie as tie
 
-returns : tie.Need-returns
-unfolding operand-checks
-returns c = cc
-
 pub operand-checks-spec : {M : Type 1} → statement M
-operand-checks-spec = tie.close (tie.spec (λ c κs. search needs) (λ c κs. search needs) (λ c κs. search needs) (λ c κs. search needs) (λ c κs. search needs) (λ c κs. search needs) (λ c κs. search needs) (λ c κs. search needs) (λ c κs. search needs) (λ c κs. search needs) (λ c κs. search needs) (λ c κs. search needs) (λ c κs. search needs) returns)
+operand-checks-spec = tie.close (tie.spec (λ c κs. search needs) (λ c κs. search needs) (λ c κs. search needs) (λ c κs. search needs) (λ c κs. search needs) (λ c κs. search needs) (λ c. cc))

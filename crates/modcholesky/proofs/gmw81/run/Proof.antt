@@ -7,7 +7,7 @@ use Rattle.modcholesky.proofs.gmw81.run.Tie as tie
 run-with-requires : tie.Need-run-with-requires
 run-with-requires c κs =
     let c3 = c .before .before .before in
-    let o = c3 .before .before .before .before .before .before .before .before .pre in
+    let o = c3 .before .before .before .before .before .before .before .before .before .pre in
     let small = o .square .small in
     (o .square, (o .finite-entries, (record { len = o .l-is; small = small }, (record { len = o .work-is; small = small }, (omega (arith, c3 .d .given), omega (arith, c .before .before .diag .given), o .e-is, o .p-is, o .some)))))
 

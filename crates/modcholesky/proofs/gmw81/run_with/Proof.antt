@@ -20,35 +20,35 @@ use Rattle.methods.proofs.Pivots.{Permuted, permuted-below}
 use Rattle.modcholesky.proofs.gmw81.run_with.Statement.{statement}
 use Rattle.modcholesky.proofs.gmw81.run_with.Tie as tie
 
-module _ (n : ℕ) (a : List Float) (s : Run) (e : s ≡ stepped n a) where
+module _ (numbers : List ℕ) (n : ℕ) (a : List Float) (s : Run) (e : s ≡ stepped numbers n a) where
   rows : AllBelow n (s .p)
-  rows = permuted-below n (s .p) (subst (λ (x : Run). Permuted n (x .p)) (sym e) (steps-permuted n _ _ a))
+  rows = permuted-below n (s .p) (subst (λ (x : Run). Permuted n (x .p)) (sym e) (steps-permuted numbers n _ _ a))
 
   finites : FiniteEntries n a → s .progress .refused ≡ Never → AllFinite n (s .l)
-  finites F h = subst (FiniteRun n) (sym e) (steps-finite n _ _ a F) h .each
+  finites F h = subst (FiniteRun n) (sym e) (steps-finite numbers n _ _ a F) h .each
 
-result-is : (n : ℕ) (a : List Float) → mod-cholesky-gmw81 n a ≡ handBack n (run n a .progress) (run n a .l) (run n a .e) (run n a .p)
+result-is : (numbers : List ℕ) (n : ℕ) (a : List Float) → mod-cholesky-gmw81 numbers n a ≡ handBack n (run numbers n a .progress) (run numbers n a .l) (run numbers n a .e) (run numbers n a .p)
 unfolding mod-cholesky-gmw81
-result-is n a = refl
+result-is numbers n a = refl
 
-ran : (n : ℕ) (a : List Float) (l c d e : List Float) (p : List ℕ) (q : Progress) (l' e' : List Float) (q' : Progress) (r : Call) → state l c d e p q ≡ stepped n a
-    → Finished n l c d e p q l' e' q' → r ≡ answered n (handBack n q' l' e' p) → r ≡ answered n (mod-cholesky-gmw81 n a)
-ran n a l c d e p q l' e' q' r es F er =
-    let k : finish n (state l c d e p q) ≡ run n a = ap (finish n) es ∙ sym (run-is n a) in
+ran : (numbers : List ℕ) (n : ℕ) (a : List Float) (l c d e : List Float) (p : List ℕ) (q : Progress) (l' e' : List Float) (q' : Progress) (r : Call) → state l c d e p q ≡ stepped numbers n a
+    → Finished n l c d e p q l' e' q' → r ≡ answered n (handBack n q' l' e' p) → r ≡ answered n (mod-cholesky-gmw81 numbers n a)
+ran numbers n a l c d e p q l' e' q' r es F er =
+    let k : finish n (state l c d e p q) ≡ run numbers n a = ap (finish n) es ∙ sym (run-is numbers n a) in
     er ∙ ap (answered n) (rw (F .l-is, F .e-is, F .progress-is, result-is, ← k) (rw (finish-order n (state l c d e p q))))
 
 finish-requires : tie.Need-finish-requires
 finish-requires c κs =
     let steps = c .before .before .before .before .before .before .before .before .before .before .before .before .before .before .before .before .before in
-    let s = steps .before .before .before .before .before .before .before .before .before .before .before .before .before .before in
+    let s = steps .before .before .before .before .before .before .before .before .before .before .before .before .before .before .before in
     let k = steps .stepped .kept in
-    (omega (arith, k, s .pre), (finites _ _ _ (steps .stepped .ensures) (record { entries = s .pre .0 .len; each = s .pre .1 .0 }), (omega (arith, k, s .pre), rows _ _ _ (steps .stepped .ensures))))
+    (omega (arith, k, s .pre), (finites _ _ _ _ (steps .stepped .ensures) (record { entries = s .pre .0 .len; each = s .pre .1 .0 }), (omega (arith, k, s .pre), rows _ _ _ _ (steps .stepped .ensures))))
 
 hand-back-requires : tie.Need-hand-back-requires
 hand-back-requires c κs =
     let finished = c .before .before .before .before .before .before .before .before .before .before .before .before in
     let steps = finished .before .before .before .before .before .before .before .before .before .before .before .before .before .before .before .before .before .before in
-    omega (arith, finished .finish .kept, steps .stepped .kept, steps .before .before .before .before .before .before .before .before .before .before .before .before .before .before .pre)
+    omega (arith, finished .finish .kept, steps .stepped .kept, steps .before .before .before .before .before .before .before .before .before .before .before .before .before .before .before .pre)
 
 same-length : tie.Need-same-length
 same-length c =
@@ -84,7 +84,7 @@ returns : tie.Need-returns
 returns c =
     let handed = c .before .before .before .before .before .before .before .before in
     let finished = handed .before .before .before .before .before .before .before .before .before .before .before .before .before in
-    ran _ _ _ _ _ _ _ _ _ _ _ _ (finished .before .before .before .before .before .before .before .before .before .before .before .before .before .before .before .before .before .before .stepped .ensures) (finished .finish .ensures _) (handed .hand-back .ensures)
+    ran _ _ _ _ _ _ _ _ _ _ _ _ _ (finished .before .before .before .before .before .before .before .before .before .before .before .before .before .before .before .before .before .before .stepped .ensures) (finished .finish .ensures _) (handed .hand-back .ensures)
 
 pub run-with-spec : {M : Type 1} → statement M
 run-with-spec = tie.close (tie.spec (λ c κs. search needs) finish-requires hand-back-requires same-length same-length-2 same-length-3 same-length-4 same-length-5 (λ c. search needs) returns)

@@ -14,11 +14,11 @@ use Rattle.modcholesky.proofs.gmw81.stepped.Tie as tie
 steps-requires : tie.Need-steps-requires
 steps-requires c κs =
     let begun = c .before .before .before .before .before .before .before .before .before .before .before .before .before .before .before .before in
-    omega (arith, begun .begin .kept, begun .before .before .before .before .before .before .before .before .before .before .before .before .before .before .before .before .before .pre)
+    omega (arith, begun .begin .kept, begun .before .before .before .before .before .before .before .before .before .before .before .before .before .before .before .before .before .before .pre)
 
-ran : (n : ℕ) (a : List Float) (diag-max off-diag-max delta beta : Float) (s₁ s₂ : Run) → diag-max ≡ diagonalMax n a → off-diag-max ≡ offDiagonalMax n a
-    → delta ≡ deltaOf diag-max off-diag-max → beta ≡ betaOf n diag-max off-diag-max → s₁ ≡ start n a → s₂ ≡ range 0 n (step n delta beta) s₁ → s₂ ≡ stepped n a
-ran n a diag-max off-diag-max delta beta s₁ s₂ ex ey ed eb e₁ e₂ = rw (e₂, e₁, ed, eb, ex, ey)
+ran : (numbers : List ℕ) (n : ℕ) (a : List Float) (diag-max off-diag-max delta beta : Float) (s₁ s₂ : Run) → diag-max ≡ diagonalMax n a → off-diag-max ≡ offDiagonalMax n a
+    → delta ≡ deltaOf diag-max off-diag-max → beta ≡ betaOf n diag-max off-diag-max → s₁ ≡ start n a → s₂ ≡ range 0 n (step numbers n delta beta) s₁ → s₂ ≡ stepped numbers n a
+ran numbers n a diag-max off-diag-max delta beta s₁ s₂ ex ey ed eb e₁ e₂ = rw (e₂, e₁, ed, eb, ex, ey)
 
 returns : tie.Need-returns
 returns c =
@@ -27,7 +27,7 @@ returns c =
     let beta = begun .before .before .before .before .before .before in
     let delta = beta .before in
     let off = delta .before in
-    ran _ _ _ _ _ _ _ _ (off .before .diagonal-max .ensures) (off .off-diagonal-max .ensures) (delta .delta-of .ensures) (beta .beta-of .ensures) (begun .begin .ensures) (steps .steps .ensures)
+    ran _ _ _ _ _ _ _ _ _ (off .before .diagonal-max .ensures) (off .off-diagonal-max .ensures) (delta .delta-of .ensures) (beta .beta-of .ensures) (begun .begin .ensures) (steps .steps .ensures)
 
 pub stepped-spec : {M : Type 1} → statement M
 stepped-spec = tie.close (tie.spec (λ c κs. search needs) (λ c κs. search needs) (λ c κs. search needs) (λ c κs. search needs) (λ c κs. search needs) steps-requires (λ c. search needs) (λ c. search needs) (λ c. search needs) (λ c. search needs) (λ c. search needs) (λ c. search needs) returns)

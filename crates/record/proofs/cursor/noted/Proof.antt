@@ -1,19 +1,10 @@
--- `noted` meets its contract, tag by tag.
-use borrow.Author.Tests.{eq-eqb, ne-eqb}
+-- `noted` meets its contract, part by part.
+use borrow.Author.Needs.{needs}
 use Rattle.record.proofs.cursor.noted.Statement.{statement}
 use Rattle.record.proofs.cursor.noted.Tie as tie
 
 returns : tie.Need-returns
-returns c = rw (eq-eqb _ _ (c .if1 .taken))
-
-returns-2 : tie.Need-returns-2
-returns-2 c = rw (ne-eqb _ _ (c .before .if1 .left), eq-eqb _ _ (c .if2 .taken))
-
-returns-3 : tie.Need-returns-3
-returns-3 c = rw (ne-eqb _ _ (c .before .before .if1 .left), ne-eqb _ _ (c .before .if2 .left), eq-eqb _ _ (c .if3 .taken))
-
-returns-4 : tie.Need-returns-4
-returns-4 c = rw (ne-eqb _ _ (c .before .before .if1 .left), ne-eqb _ _ (c .before .if2 .left), ne-eqb _ _ (c .if3 .left))
+returns c = cc
 
 pub noted-spec : {M : Type 1} → statement M
-noted-spec = tie.close (tie.spec returns returns-2 returns-3 returns-4)
+noted-spec = tie.close (tie.spec (search needs) (search needs) (search needs) (search needs) (search needs) returns)

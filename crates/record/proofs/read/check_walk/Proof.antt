@@ -4,4 +4,4 @@ use Rattle.record.proofs.read.check_walk.Statement.{statement}
 use Rattle.record.proofs.read.check_walk.Tie as tie
 
 pub check-walk-spec : {M : Type 1} → statement M
-check-walk-spec = tie.close (tie.spec (search needs) (search needs) (search needs) (search needs) (search needs) (search needs) (λ c. cc) (λ c. cc) (λ c. cc) (λ c. cc) (λ c. cc) (λ c. cc))
+check-walk-spec = tie.close (tie.spec (search needs) (search needs) (search needs) (search needs) (search needs) (search needs) (search needs) (λ c. cc) (λ c. cc) (λ c. cc) (λ c. cc) (λ c. cc) (λ c. cc) (λ c. cc))

@@ -9,4 +9,4 @@ unfolding request-checks
 returns c = cc
 
 pub request-checks-spec : {M : Type 1} → statement M
-request-checks-spec = tie.close (tie.spec (search needs) (search needs) (search needs) (search needs) (search needs) (search needs) (search needs) (search needs) (search needs) returns)
+request-checks-spec = tie.close (tie.spec (search needs) (search needs) (search needs) (search needs) (search needs) (search needs) (search needs) (search needs) (search needs) (search needs) (search needs) returns)

@@ -1,0 +1,49 @@
+//! What phase two adds last: one amount, or two eigenvalues with a shared amount.
+
+use super::run::{stored, NotFinite, Run};
+use super::words::{max, square, TAU, TAU_BAR};
+use crate::SE90;
+
+/// SE99 entering phase two at step n - 1.
+pub fn one(run: &mut Run, gamma: f64) -> Result<(), NotFinite> {
+    let (j, l) = (run.n - 1, &mut run.l);
+    let last = l[(j, j)];
+    run.e[j] = stored(-last + max(TAU_BAR * gamma, TAU * -last / (1.0 - TAU)))?;
+    l[(j, j)] = stored(last + run.e[j])?;
+    l[(j, j)] = stored(l[(j, j)].sqrt())?;
+    Ok(())
+}
+
+pub fn two(run: &mut Run, method: u8, gamma: f64, delta_prev: f64) -> Result<(), NotFinite> {
+    let (i, j) = (run.n - 2, run.n - 1);
+    let (lhi, llo) = eigenvalues(run)?;
+    let wanted = -llo + share(method, gamma, lhi - llo);
+    run.e[i] = stored(max(max(0.0, wanted), delta_prev))?;
+    run.e[j] = run.e[i];
+    let l = &mut run.l;
+    if run.e[i] > 0.0 {
+        l[(i, i)] = stored(l[(i, i)] + run.e[i])?;
+        l[(j, j)] = stored(l[(j, j)] + run.e[j])?;
+    }
+    l[(i, i)] = stored(l[(i, i)].sqrt())?;
+    l[(j, i)] = stored(l[(j, i)] / l[(i, i)])?;
+    l[(j, j)] = stored((l[(j, j)] - square(l[(j, i)])).sqrt())?;
+    Ok(())
+}
+
+fn share(method: u8, gamma: f64, width: f64) -> f64 {
+    match method {
+        SE90 => TAU * max(gamma, 1.0 / (1.0 - TAU) * width),
+        _ => max(TAU_BAR * gamma, TAU * width / (1.0 - TAU)),
+    }
+}
+
+/// Of the last block, the larger first.
+fn eigenvalues(run: &Run) -> Result<(f64, f64), NotFinite> {
+    let (i, j) = (run.n - 2, run.n - 1);
+    let [a, b, c, d] = [(i, i), (i, j), (j, i), (j, j)].map(|at| run.l[at]);
+    let tmp = (square(-(a + d) / 2.0) - a * d + b * c).sqrt();
+    let l1 = stored((a + d) / 2.0 + tmp)?;
+    let l2 = stored((a + d) / 2.0 - tmp)?;
+    Ok(if l1 > l2 { (l1, l2) } else { (l2, l1) })
+}
