@@ -127,7 +127,7 @@ impl fmt::Display for Refusal {
                 let due = tags_due(field);
                 write!(f, "field {field} has tag {tag:02X}, {due} was due")
             }
-            Refusal::NumbersLength => write!(f, "not each row has a contract number"),
+            Refusal::NumbersLength => write!(f, "not exactly one contract number for each row"),
             Refusal::NumberRepeated { position } => {
                 write!(f, "row {position} has the contract number of an earlier row")
             }

@@ -389,7 +389,7 @@ fn broken_records_in_words() {
     );
     assert_eq!(
         Refusal::NumbersLength.to_string(),
-        "refusal 12: not each row has a contract number"
+        "refusal 12: not exactly one contract number for each row"
     );
     assert_eq!(
         Refusal::NumberRepeated { position: 2 }.to_string(),

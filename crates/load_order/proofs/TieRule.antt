@@ -1,5 +1,5 @@
 -- The tie rule, from the law of the search by number.
-use mathlib.Core.Path.{_≡_, ap, ap₂, _∙_, subst}
+use mathlib.Core.Path.{_≡_, refl, ap, ap₂, _∙_, subst}
 use mathlib.Core.Bool.{Bool, false}
 use mathlib.Core.List.{List}
 use Prim.Native.Nat.{ℕ, _+_, _-_, _≤_, _<_}
@@ -8,8 +8,8 @@ use lib.ListN.{length, getD, drop, length-drop}
 use lib.Ieee.{Float, nan, lt, eq, isNan}
 use Rattle.matrix.specs.Search.{key, largest}
 use Rattle.matrix.proofs.SearchLaws.{candidate, Numbers}
-use Rattle.methods.specs.Statements.{numberAt, smallestNumber}
-use Rattle.load_order.specs.TieRule.{PivotByNumber, TieRuleTheorem}
+use Rattle.methods.specs.Statements.{numberAt, smallestNumber, pick}
+use Rattle.load_order.specs.TieRule.{PivotByNumber, TieRuleTheorem, FirstInPositionTheorem}
 use Rattle.load_order.proofs.Smallest.{key-number, dropped, top-of-equal, Smallest, smallest-is, pick-smallest}
 
 module _ (numbers p : List ℕ) (magnitude : Bool) (values : List Float) (j : ℕ) (pj : j < length values) (nn : (i : ℕ) → j ≤ i → i < length values → isNan (getD values i nan) ≡ false) where
@@ -53,3 +53,7 @@ module _ (numbers p : List ℕ) (magnitude : Bool) (values : List Float) (j : �
 
 pub tie-rule : TieRuleTheorem
 tie-rule numbers p magnitude values j some pj nn = rw (pick-smallest numbers p magnitude values j some) (pivot numbers p magnitude values j pj nn)
+
+pub first-in-position : FirstInPositionTheorem
+unfolding pick
+first-in-position p magnitude values j = refl

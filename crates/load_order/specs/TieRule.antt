@@ -1,12 +1,12 @@
--- Document 02's tie rule, of the search itself: with contract numbers the pivot is one of the largest, and of those it has the smallest number.
--- Proved as `tie-rule` in proofs/TieRule.antt.
+-- Document 02's tie rule, of the search itself: with contract numbers the pivot is one of the largest, and of those it has the smallest
+-- number; without them it is the first of equals in position. Proved as `tie-rule` and `first-in-position` in proofs/TieRule.antt.
 use mathlib.Core.Path.{_≡_}
 use mathlib.Core.Bool.{Bool, true, false}
-use mathlib.Core.List.{List}
+use mathlib.Core.List.{List, []}
 use Prim.Native.Nat.{ℕ, _+_, _≤_, _<_}
-use lib.ListN.{length, getD}
+use lib.ListN.{length, getD, drop}
 use lib.Ieee.{Float, nan, lt, eq, isNan}
-use Rattle.matrix.specs.Search.{key}
+use Rattle.matrix.specs.Search.{key, largest}
 use Rattle.methods.specs.Statements.{numberAt, pick}
 
 -- position k is the pivot of step j; p[t] is the contract at position t
@@ -21,3 +21,7 @@ TieRuleTheorem =
     (numbers p : List ℕ) (magnitude : Bool) (values : List Float) (j : ℕ)
     → 0 < length numbers → j < length values → ((i : ℕ) → j ≤ i → i < length values → isNan (getD values i nan) ≡ false)
     → PivotByNumber numbers p magnitude values j (j + pick numbers p magnitude values j .index)
+
+-- an empty list: index_of_largest(&values.slice(s![j..])), as the Rust has it
+abbrev pub FirstInPositionTheorem : Type 0
+FirstInPositionTheorem = (p : List ℕ) (magnitude : Bool) (values : List Float) (j : ℕ) → pick [] p magnitude values j ≡ largest magnitude (drop j values)
