@@ -55,14 +55,15 @@ fn number_at(numbers: &[u32], p: &[usize], t: usize) -> u32
     0
 }
 
-// i where it is tied and its number is smaller than that of the best so far, else the best.
-fn look_number(tied: bool, number: u32, least: u32, i: usize, best: usize) -> usize
-    ensures { λ r. ⌜ r ≡ cond (tied && ltb number least) i best ⌝ }
+// i where it is tied and its number is smaller than that of the best so far, else the best. Candidates count from j.
+fn look_number(numbers: &[u32], p: &[usize], j: usize, tied: bool, i: usize, best: usize) -> usize
+    requires { ⌜ (j + i < length (now p)) × (j + best < length (now p)) ⌝ }
+    ensures { λ r. ⌜ r ≡ cond (tied && ltb (numberAt (now (numbers .entry)) (now (p .entry)) (j + i)) (numberAt (now (numbers .entry)) (now (p .entry)) (j + best))) i best ⌝ }
 {
     if !tied {
         return best;
     }
-    if number < least {
+    if number_at(numbers, p, j + i) < number_at(numbers, p, j + best) {
         return i;
     }
     best
@@ -85,8 +86,7 @@ fn smallest_number(
     let n = c.len();
     for i in 0..n {
         let tied = largest == utils::key(magnitude, c[i]);
-        let number = number_at(numbers, p, j + i);
-        best = look_number(tied, number, number_at(numbers, p, j + best), i, best);
+        best = look_number(numbers, p, j, tied, i, best);
     }
     best
 }

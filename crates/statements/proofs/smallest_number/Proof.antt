@@ -32,18 +32,18 @@ module _ (numbers p : List ℕ) (j : ℕ) (magnitude : Bool) (c : List Float) (f
   abbrev number : ℕ → ℕ
   number k = numberAt numbers p (j + k)
 
-  looked : (x y : Float) (a b r : ℕ) → r ≡ cond (eq x y && ltb a b) i best → x ≡ key magnitude (getD c first nan) → y ≡ key magnitude (getD c i nan) → a ≡ number i → b ≡ number best → r ≡ lookNumber tied number i best
-  looked x y a b r e ex ey ea eb = rw (e, ex, ey, ea, eb)
+  looked : (x y : Float) (r : ℕ) → r ≡ cond (eq x y && ltb (number i) (number best)) i best → x ≡ key magnitude (getD c first nan) → y ≡ key magnitude (getD c i nan) → r ≡ lookNumber tied number i best
+  looked x y r e ex ey = rw (e, ex, ey)
 
   looked-below : (n r : ℕ) → i < n → best < n → r ≡ lookNumber tied number i best → r < n
   looked-below n r h b e = rw e (look-below n tied number i best h b)
 
 loop-again : tie.Need-loop-again Inv-loop μ-loop
 loop-again c =
-    let l = c .before .before .before .before .before .before .loop in
-    let a = c .before .before .before .before .before .before .before .before .before .before .before .before .args in
-    let e = looked (a .numbers .now) (a .p .now) (a .j) (a .magnitude) (a .c .now) (a .first) (l .i) (l .best) _ _ _ _ _ (c .look-number .ensures)
-    (c .before .before .before .before .before .before .before .key .ensures) (c .before .before .before .key2 .ensures) (c .before .before .number-at .ensures) (c .before .number-at2 .ensures) in
+    let l = c .before .before .before .before .loop in
+    let a = c .before .before .before .before .before .before .before .before .before .before .args in
+    let e = looked (a .numbers .now) (a .p .now) (a .j) (a .magnitude) (a .c .now) (a .first) (l .i) (l .best) _ _ _ (c .look-number .ensures)
+    (c .before .before .before .before .before .key .ensures) (c .before .key2 .ensures) in
     (search needs, looked-below (a .numbers .now) (a .p .now) (a .j) (a .magnitude) (a .c .now) (a .first) (l .i) (l .best) _ _ (search needs) (l .inv .1) e, loop-turn 0 _ _ _ _ _ zero-le (l .inv .2) e)
 
 smallest : (number : ℕ → ℕ) (magnitude : Bool) (c : List Float) (first best : ℕ) → best ≡ range 0 (length c) (lookNumber (tiedWith magnitude c first) number) first → best ≡ smallestNumber number magnitude c first
@@ -54,4 +54,4 @@ returns : tie.Need-returns Inv-loop μ-loop
 returns c = smallest _ _ _ _ _ (loop-end 0 _ _ _ _ _ (c .before .loop .inv .0) (search needs) (c .before .loop .inv .2))
 
 pub smallest-number-spec : {M : Type 1} → statement M
-smallest-number-spec = tie.close (tie.spec Inv-loop μ-loop (λ c. search needs) (λ c. search needs) (λ c κs. search needs) loop-holds (λ c. search needs) (λ c. search needs) (λ c κs. search needs) (λ c. search needs) (λ c κs. search needs) (λ c. search needs) (λ c κs. search needs) (λ c. search needs) (λ c. search needs) (λ c. search needs) loop-again returns)
+smallest-number-spec = tie.close (tie.spec Inv-loop μ-loop (λ c. search needs) (λ c. search needs) (λ c κs. search needs) loop-holds (λ c. search needs) (λ c. search needs) (λ c κs. search needs) (λ c κs. search needs) (λ c. search needs) (λ c. search needs) loop-again returns)
