@@ -2,22 +2,19 @@
 use mathlib.Core.Path.{_≡_, refl}
 use mathlib.Core.List.{List, [], _∷_}
 use mathlib.Core.Bool.{not}
-use Prim.Native.Nat.{ℕ, suc, _+_, _*_, _/_, _%_, _≤_, _<_}
+use Prim.Native.Nat.{ℕ, suc, _+_, _*_, _/_, _≤_, _<_}
 use native.Mathlib.Omega.{arith}
 use borrow.Author.Tests.{not-false, eqb-true}
 use lib.ListN.{length, getD, take, drop}
-use lib.Seq.{getD-drop}
 use lib.Dec.{eqb}
 use Rattle.arithmetic.proofs.OutcomeLaws.{refuse-complete}
 use Rattle.arithmetic.specs.declared.outcome.Outcome.the-variants.{NumbersLength}
-use Rattle.matrix.specs.Plain.{AllBelow}
-use Rattle.matrix.specs.Checks.{check-numbers, check-distinct, Distinct}
+use Rattle.matrix.specs.Checks.{check-distinct, Distinct}
 use Rattle.matrix.proofs.TableLaws.{length-table, getD-table}
 use Rattle.matrix.proofs.CheckLaws.{Accepted, both-accepted, distinct-accepted}
 use Rattle.encoding.specs.Bytes.{lowFirst, numbers}
 use Rattle.encoding.specs.Checks.{check-number-bytes, number-byte-checks}
-use Rattle.encoding.proofs.ByteLaws.{fours}
-use Rattle.encoding.proofs.Numbers.{take-more, number-take-lt}
+use Rattle.encoding.proofs.Numbers.{take-more}
 
 pub numbers-length : (b : List ℕ) → length (numbers b) ≡ length b / 4
 unfolding numbers
@@ -40,11 +37,6 @@ four-bytes b at h =
     let g : suc (at + 2) ≡ at + 3 = omega arith in
     rw (take-more b 3 at (omega arith), e, take-more b 2 (at + 1) (omega arith), f, take-more b 1 (at + 2) (omega arith), g, take-more b 0 (at + 3) (omega arith))
 
--- a number of four bytes is below 2^32
-pub numbers-below : (b : List ℕ) → ((i : ℕ) → getD b i 0 < 256) → AllBelow 0x1_0000_0000 (numbers b)
-numbers-below b h k q =
-    rw (numbers-at b k (omega (arith, numbers-length b))) (number-take-lt 4 (drop (4 * k) b) (λ i. rw getD-drop (h (4 * k + i))))
-
 -- ---- the numbers at i and k, read
 module _ (b : List ℕ) (i k : ℕ) (p : i < length b / 4) (q : k < length b / 4) where
   pub numbers-same : (x y : ℕ) → x ≡ lowFirst (take 4 (drop (4 * i) b)) → y ≡ lowFirst (take 4 (drop (4 * k) b)) → eqb (getD (numbers b) i 0) (getD (numbers b) k 0) ≡ eqb x y
@@ -60,7 +52,3 @@ number-checks-accepted n b h =
     let t = both-accepted (check-number-bytes n (length b)) (check-distinct (numbers b)) h in
     let l : length b ≡ 4 * n = number-bytes-accepted n (length b) (t .0) in
     (l, omega (arith, numbers-length b), distinct-accepted (numbers b) (t .1))
-
--- on whole numbers of four bytes the check is the one on the list
-pub check-numbers-bytes : (n : ℕ) (b : List ℕ) → length b % 4 ≡ 0 → check-number-bytes n (length b) ≡ check-numbers n (length (numbers b))
-check-numbers-bytes n b h = rw (numbers-length b, fours n (length b) h)

@@ -71,13 +71,14 @@ check-symmetric n m = refuse (ltb (firstUnsymmetric n m) (n * n)) (Unsymmetric (
 abbrev pub check-numbers : ℕ → ℕ → Outcome
 check-numbers n len = refuse (not (eqb len n)) NumbersLength
 
--- 13: the first position whose number came before. The first position before k with the number at k, or k
+-- the first position before k with the number at k; k where there is none
 abbrev pub firstSame : List ℕ → ℕ → ℕ
 firstSame numbers k = first (λ i. eqb (getD numbers i 0) (getD numbers k 0)) k
 
 abbrev pub cameBefore : List ℕ → ℕ → Bool
 cameBefore numbers k = ltb (firstSame numbers k) k
 
+-- 13: the first position whose number came before
 abbrev pub firstRepeated : List ℕ → ℕ
 firstRepeated numbers = first (cameBefore numbers) (length numbers)
 
