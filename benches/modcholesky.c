@@ -1,4 +1,5 @@
-// The three factorizations in plain C, statement by statement beside the Rust, without checks: what the benchmark compares with.
+// The three factorizations in plain C, statement by statement beside the Rust, and solving, by the same steps and as LAPACK does, all
+// without checks: what the benchmark compares with.
 #include <math.h>
 #include <stddef.h>
 #include <string.h>
@@ -191,4 +192,34 @@ void c_se(int se99, const double *a, size_t n, double *l, double *e, size_t *p) 
     phase_two(se99, l, n, k, gamma, e, p);
   lower_triangle(l, n);
   reorder(e, p, n);
+}
+
+void c_solve(const double *l, size_t n, const size_t *p, const double *b, double *y) {
+  double w[48];
+  for (size_t t = 0; t < n; t++) {
+    double sum = 0;
+    for (size_t k = 0; k < t; k++) sum += l[t * n + k] * w[k];
+    w[t] = (b[p[t]] - sum) / l[t * n + t];
+  }
+  for (size_t t = n; t-- > 0;) {
+    double sum = 0;
+    for (size_t k = t + 1; k < n; k++) sum += l[k * n + t] * w[k];
+    w[t] = (w[t] - sum) / l[t * n + t];
+  }
+  for (size_t t = 0; t < n; t++) y[p[t]] = w[t];
+}
+
+// As dpotrs: in place, products taken one by one, and along the rows of L in both directions.
+void c_potrs(const double *l, size_t n, const size_t *p, const double *b, double *y) {
+  double x[48];
+  for (size_t t = 0; t < n; t++) x[t] = b[p[t]];
+  for (size_t t = 0; t < n; t++) {
+    for (size_t k = 0; k < t; k++) x[t] -= l[t * n + k] * x[k];
+    x[t] /= l[t * n + t];
+  }
+  for (size_t t = n; t-- > 0;) {
+    x[t] /= l[t * n + t];
+    for (size_t k = 0; k < t; k++) x[k] -= l[t * n + k] * x[t];
+  }
+  for (size_t t = 0; t < n; t++) y[p[t]] = x[t];
 }

@@ -1,5 +1,5 @@
-/* Factors an indefinite matrix by SE99 and prints L, e and p; then shows a refusal, a tie with and without contract
- * numbers, and what is broken in records. */
+/* Factors an indefinite matrix by SE99, solves with the factor and prints L, e, p and y; then shows a refusal, a tie
+ * with and without contract numbers, and what is broken in records. */
 #include <stdio.h>
 
 #include "millracer.h"
@@ -18,12 +18,14 @@ static void print_step(const char *name, size_t step) {
     printf("%s %zu\n", name, step);
 }
 
-static void factor(const double *a) {
-  double l[N * N], work[N * N], e[N];
+static void print_refusal(millracer_refusal r) { printf("refusal %zu at %zu, %zu\n", r.number, r.row, r.column); }
+
+static void factor(const double *a, const double *b) {
+  double l[N * N], work[N * N], e[N], y[N];
   size_t p[N];
   millracer_factorization f = millracer_factor(MILLRACER_SE99, a, N * N, N, l, N * N, work, N * N, e, N, p, N);
   if (f.refusal.number != MILLRACER_COMPLETE) {
-    printf("refusal %zu at %zu, %zu\n", f.refusal.number, f.refusal.row, f.refusal.column);
+    print_refusal(f.refusal);
     return;
   }
   for (size_t i = 0; i < N; i++) {
@@ -35,6 +37,13 @@ static void factor(const double *a) {
   printf("p %zu %zu %zu\n", p[0], p[1], p[2]);
   print_step("tied step", f.tied);
   print_step("phase-two step", f.phase2);
+  millracer_refusal solved = millracer_solve(l, N * N, N, p, N, b, N, y, N);
+  if (solved.number != MILLRACER_COMPLETE) {
+    print_refusal(solved);
+    return;
+  }
+  printf("y");
+  print_row(y);
 }
 
 /* numbers: one for each contract, or null for none. */
@@ -49,7 +58,7 @@ static void show_pivots(const double *a, const uint32_t *numbers) {
   else
     printf("no numbers: ");
   if (f.refusal.number != MILLRACER_COMPLETE)
-    printf("refusal %zu at %zu, %zu\n", f.refusal.number, f.refusal.row, f.refusal.column);
+    print_refusal(f.refusal);
   else
     printf("p %zu %zu %zu, tied step %zu\n", p[0], p[1], p[2], f.tied);
 }
@@ -72,8 +81,10 @@ static void show_record(const uint8_t *record, size_t record_len) {
 int main(void) {
   const double indefinite[N * N] = {1, 2, 0.5, 2, 4, 1.5, 0.5, 1.5, 0.5};
   const double unsymmetric[N * N] = {1, 2, 0.5, 2, 4, 1.5, 0.5, 1.25, 0.5};
-  factor(indefinite);
-  factor(unsymmetric);
+  /* The column of contract 1, for which nothing is added. */
+  const double right_side[N] = {2, 4, 1.5};
+  factor(indefinite, right_side);
+  factor(unsymmetric, right_side);
 
   /* After the first swap contract 0 stands last, so that the first in position is contract 1. */
   const double tied[N * N] = {1, 0, 0, 0, 1, 0, 0, 0, 3};

@@ -1,10 +1,11 @@
-/* The calls of Millracer for C: modified Cholesky factorizations, their helpers and the square root.
+/* The calls of Millracer for C: modified Cholesky factorizations, solving with the factor, their helpers and the square
+ * root.
  *
  * `rt staticlib exports` writes target/staticlib/libexports.a, for x86-64 Linux. From the repository's folder:
  *
  *     gcc -Ibindings -o example bindings/example.c target/staticlib/libexports.a -lm
  *
- * bindings/example.c factors a matrix and prints the result.
+ * bindings/example.c factors a matrix, solves with the factor and prints the results.
  *
  * Matrices are n rows of n doubles in row order, n from 1 to MILLRACER_MAX_N; rows, columns, steps and places count
  * from 0. Every pointer is followed by the number of its elements. The caller owns all memory: a call reads and writes
@@ -14,8 +15,8 @@
  * A call whose name ends in _bytes takes doubles as bytes, eight each with the low byte first, contract numbers as four
  * bytes each likewise, and lists of indices as one byte each; its lengths are numbers of bytes. x86-64 keeps a double
  * in that order, so the call of the same name without the ending, on double and size_t, is an inline function that
- * passes the same memory on to the one on bytes, and a list of indices as a copy. Only millracer_factor and
- * millracer_factor_numbered pass on to millracer_factor_doubles and millracer_factor_numbered_doubles instead.
+ * passes the same memory on to the one on bytes, and a list of indices as a copy. Only millracer_factor,
+ * millracer_factor_numbered and millracer_solve pass on to the call whose name ends in _doubles instead.
  *
  * No operand is forbidden otherwise: a call that can't accept one says so by a refusal. The contract of each function
  * in the archive, an equation for what it hands back and for every buffer it was lent, is proved (crates/exports). */
@@ -31,10 +32,11 @@ extern "C" {
 
 enum { MILLRACER_MAX_N = 48, MILLRACER_NO_STEP = 255 };
 
-/* Refusals, in checking order but for 10 to 13. Only a record is refused 1, 10 and 11: 1 where it is too long, then
+/* Refusals, in checking order but for 10 to 15. Only a record is refused 1, 10 and 11: 1 where it is too long, then
  * 10 or 11 of its first offending field (10 if both hold of it), then 1 for the rest, then 2 and so on. Its fields
  * count from 0 and have the tags 01 (n), 02 (method), 04 (contract numbers, which may be left out) and 03 (entries).
- * 12 and 13 come after 4 and before 5, where there are contract numbers.
+ * 12 and 13 come after 4 and before 5, where there are contract numbers. 14 comes after 5 and 15 after 7; only
+ * millracer_solve gives them.
  * All but 9 leave every buffer untouched, save that an answer record tells of them. */
 enum {
   MILLRACER_COMPLETE = 0,
@@ -43,14 +45,17 @@ enum {
   MILLRACER_SIZE_OUT_OF_RANGE = 3,  /* n is 0 or above 48, or a search is over nothing */
   MILLRACER_MATRIX_LENGTH = 4,      /* a matrix without n * n entries; bytes that are no whole number of doubles */
   MILLRACER_BUFFER_LENGTH = 5,      /* a buffer of another length than its own */
-  MILLRACER_INDEX_OUT_OF_RANGE = 6, /* row: position of the first such index among those given */
+  MILLRACER_INDEX_OUT_OF_RANGE = 6, /* row: position of the first such index among those given; in solving also of one
+                                     * that came before */
   MILLRACER_NOT_FINITE = 7,         /* row, column: the first entry that is infinite or NaN; in a list position and 0 */
   MILLRACER_UNSYMMETRIC = 8,        /* row, column: the first entry above the diagonal whose mirror has other bits */
   MILLRACER_STORED_NOT_FINITE = 9,  /* row: the first step that stored an infinity or NaN */
   MILLRACER_FIELD_PAST_END = 10,    /* the transfer was cut in field ROW: its header or content runs past the end */
   MILLRACER_TAG_NOT_DUE = 11,       /* field ROW has a tag that isn't due; it isn't cut */
   MILLRACER_NUMBERS_LENGTH = 12,    /* not n contract numbers; on bytes and in a record not 4 * n bytes of them */
-  MILLRACER_NUMBER_REPEATED = 13    /* row: the first row whose contract number came before */
+  MILLRACER_NUMBER_REPEATED = 13,   /* row: the first row whose contract number came before */
+  MILLRACER_LIST_LENGTH = 14,       /* p or b without n elements */
+  MILLRACER_ZERO_DIAGONAL = 15      /* row: the first row of L whose diagonal entry is zero, of either sign */
 };
 
 /* How a call ended: 0, or a refusal and its place; row and column are 0 where none is named. */
@@ -102,6 +107,23 @@ static inline millracer_factorization millracer_factor_numbered(size_t method, c
                                                                 size_t e_len, size_t *p, size_t p_len) {
   return millracer_factor_numbered_doubles(method, a, a_len, n, numbers, numbers_len, l, l_len, work, work_len, e,
                                            e_len, p, p_len);
+}
+
+/* ---- solving with the factor */
+
+millracer_refusal millracer_solve_doubles(const double *l, size_t l_len, size_t n, const size_t *p, size_t p_len,
+                                          const double *b, size_t b_len, double *y, size_t y_len);
+millracer_refusal millracer_solve_bytes(const uint8_t *l, size_t l_len, size_t n, const uint8_t *p, size_t p_len,
+                                        const uint8_t *b, size_t b_len, uint8_t *y, size_t y_len);
+
+/* The y with L times L transposed times y equal to b, by forward and backward substitution: l and p as a factorization
+ * hands them back, b and y by the rows of its matrix. Lengths: l n * n, p, b and y n. Of l only the diagonal and what
+ * stands below it is read. It is the solution for the matrix with e added to its diagonal, but for rounding.
+ * 6 is an index of p that isn't below n or came before; 7 is looked for in l, then in b. Refusal 9 at a row of l, the
+ * first in time whose value isn't finite, writes +0.0 over y. */
+static inline millracer_refusal millracer_solve(const double *l, size_t l_len, size_t n, const size_t *p, size_t p_len,
+                                                const double *b, size_t b_len, double *y, size_t y_len) {
+  return millracer_solve_doubles(l, l_len, n, p, p_len, b, b_len, y, y_len);
 }
 
 /* ---- records */

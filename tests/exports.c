@@ -143,6 +143,54 @@ static void numbers_in_bytes(void) {
   EXPECT(is(f.refusal, MILLRACER_NUMBER_REPEATED, 1, 0) && p[0] == 1 && p[1] == 0);
 }
 
+static const double factor[] = {2, NAN, 1, 1}, right_side[] = {6, 10};
+
+// The refusal of solving two rows, which leaves y as it was.
+static millracer_refusal unsolved(const double *l, size_t l_len, size_t n, const size_t *p, size_t p_len,
+                                  const double *b, size_t b_len, size_t y_len) {
+  double y[3] = {7, 7, 7};
+  millracer_refusal r = millracer_solve(l, l_len, n, p, p_len, b, b_len, y, y_len);
+  EXPECT(same(y, (double[]){7, 7, 7}, 3));
+  return r;
+}
+
+static void solutions(void) {
+  const size_t p[] = {1, 0, 0}, indices[][2] = {{1, 1}, {0, 2}, {0, 256}, {1, SIZE_MAX}};
+  const double nan[] = {NAN, NAN, NAN, NAN}, zero[] = {3, NAN, 1, -0.0}, low[] = {1, 0, 0, 0x1p-600};
+  double y[2];
+  EXPECT(is(millracer_solve(factor, 4, 2, p, 2, right_side, 2, y, 2), 0, 0, 0) && same(y, (double[]){1, 2}, 2));
+  EXPECT(is(millracer_solve(low, 4, 2, p, 2, right_side, 2, y, 2), MILLRACER_STORED_NOT_FINITE, 1, 0));
+  EXPECT(same(y, (double[2]){0}, 2));
+  EXPECT(is(unsolved(nan, 3, 49, p, 3, nan, 1, 1), MILLRACER_SIZE_OUT_OF_RANGE, 0, 0));
+  EXPECT(is(unsolved(nan, 3, 2, p, 3, nan, 1, 1), MILLRACER_MATRIX_LENGTH, 0, 0));
+  EXPECT(is(unsolved(nan, 4, 2, p, 3, nan, 1, 1), MILLRACER_BUFFER_LENGTH, 0, 0));
+  EXPECT(is(unsolved(nan, 4, 2, p, 3, nan, 2, 2), MILLRACER_LIST_LENGTH, 0, 0));
+  EXPECT(is(unsolved(nan, 4, 2, p, 2, nan, 1, 2), MILLRACER_LIST_LENGTH, 0, 0));
+  for (size_t i = 0; i < 4; i++)
+    EXPECT(is(unsolved(nan, 4, 2, indices[i], 2, nan, 2, 2), MILLRACER_INDEX_OUT_OF_RANGE, 1, 0));
+  EXPECT(is(unsolved(nan, 4, 2, p, 2, nan, 2, 2), MILLRACER_NOT_FINITE, 0, 0));
+  EXPECT(is(unsolved(zero, 4, 2, p, 2, (double[]){1, INFINITY}, 2, 2), MILLRACER_NOT_FINITE, 1, 0));
+  EXPECT(is(unsolved(zero, 4, 2, p, 2, right_side, 2, 2), MILLRACER_ZERO_DIAGONAL, 1, 0));
+}
+
+// One byte an index; a length of one byte more or less is refused.
+static void solutions_in_bytes(void) {
+  const uint8_t *l = (const uint8_t *)factor, *b = (const uint8_t *)right_side, p[] = {1, 0, 0};
+  const size_t l_lens[] = {31, 33, 32, 32, 32, 32, 32, 32}, y_lens[] = {16, 16, 15, 17, 16, 16, 16, 16},
+               p_lens[] = {2, 2, 2, 2, 1, 3, 2, 2}, b_lens[] = {16, 16, 16, 16, 16, 16, 15, 17},
+               numbers[] = {MILLRACER_MATRIX_LENGTH, MILLRACER_BUFFER_LENGTH, MILLRACER_LIST_LENGTH,
+                            MILLRACER_LIST_LENGTH};
+  uint8_t y[17] = {7};
+  for (size_t i = 0; i < 8; i++)
+    EXPECT(is(millracer_solve_bytes(l, l_lens[i], 2, p, p_lens[i], b, b_lens[i], y, y_lens[i]), numbers[i / 2], 0, 0));
+  EXPECT(is(millracer_solve_bytes(l, 32, 2, (uint8_t[]){0, 255}, 2, b, 16, y, 16), MILLRACER_INDEX_OUT_OF_RANGE, 1, 0));
+  EXPECT(is(millracer_solve_bytes(l, 32, 2, (uint8_t[]){0, 0}, 2, b, 16, y, 16), MILLRACER_INDEX_OUT_OF_RANGE, 1, 0));
+  EXPECT(y[0] == 7 && y[1] == 0 && memcmp(y + 1, y + 2, 15) == 0);
+  // bytes may stand at any address
+  EXPECT(is(millracer_solve_bytes(l, 32, 2, p, 2, b, 16, y + 1, 16), 0, 0, 0));
+  EXPECT(y[0] == 7 && memcmp(y + 1, (double[]){1, 2}, 16) == 0);
+}
+
 // A length of one byte more or less is refused, and the buffers stay as they are.
 static void lengths_in_bytes(void) {
   const uint8_t c[] = {0, 0, 0, 0, 0, 0, 0xf0, 0x3f, 0, 0, 0, 0, 0, 0, 0, 0xc0};
@@ -310,6 +358,8 @@ int main(void) {
   factorizations();
   numbers();
   numbers_in_bytes();
+  solutions();
+  solutions_in_bytes();
   lengths_in_bytes();
   records();
   broken_records();

@@ -19,6 +19,7 @@ REFUSALS = {
     8: "unsymmetric",
     12: "the contract numbers are not four bytes for each row",
 }
+# Of a record.
 LAST_REFUSAL = 13
 
 
@@ -104,7 +105,7 @@ def refused_answer(contents):
     refusal, tied, phase_two = (content[0] for content in contents[:3])
     row, column = contents[3]
     if not 1 <= refusal <= LAST_REFUSAL:
-        raise Mistake(f"no refusal has number {refusal}")
+        raise Mistake(f"no record is refused {refusal}")
     if not is_place(refusal, row, column):
         raise Mistake(f"refusal {refusal} cannot be at {row}, {column}")
     check_steps(tied, phase_two, LARGEST_N if refusal == 9 else 0)

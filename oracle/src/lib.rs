@@ -3,9 +3,11 @@
 pub mod generate;
 pub mod helpers;
 pub mod numbered;
+pub mod operands;
 pub mod record;
 pub mod replay;
 pub mod second;
+pub mod systems;
 pub mod table;
 
 use modcholesky::{Decomposition, ModCholeskyGMW81, ModCholeskySE90, ModCholeskySE99};

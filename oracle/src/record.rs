@@ -3,8 +3,8 @@
 mod checks;
 
 pub use checks::{
-    checked, Input, Refusal, DUE, MALFORMED, NUMBERED_DUE, NUMBERS_LENGTH, NUMBER_REPEATED,
-    PAST_END, TAG_NOT_DUE,
+    checked, doubles, Input, Refusal, DUE, MALFORMED, NUMBERED_DUE, NUMBERS_LENGTH,
+    NUMBER_REPEATED, PAST_END, TAG_NOT_DUE,
 };
 
 use crate::{factor, second, Answer, COMPLETE, NOT_FINITE};

@@ -1,7 +1,7 @@
 //! The three methods once more, in plain loops, with the settling of ties as a parameter: the judge of
 //! matrices with contract numbers, of which the Rust can't be asked. Written from documents 01 and 02,
 //! statement by statement beside the Rust and apart from the port. Without numbers it has the Rust's
-//! bits: tests/second.rs and the comparison check that.
+//! bits: tests/second.rs and the comparison check that. Also the solving that document 02 adds.
 
 mod elimination;
 mod gmw81;
@@ -9,6 +9,7 @@ mod last_rows;
 mod phase_one;
 mod phase_two;
 mod run;
+pub mod solve;
 mod square;
 mod words;
 

@@ -1,5 +1,7 @@
 //! Microseconds a factorization of the proved code (its call on doubles), of the Rust and of plain C on
-//! the same matrices, and the ratios, for each method at n = 8, 24 and 48.
+//! the same matrices, and the ratios, for each method at n = 8, 24 and 48; then of solving with the factor.
+
+mod solve;
 
 use millracer::{factor, Method};
 use modcholesky::{ModCholeskyGMW81, ModCholeskySE90, ModCholeskySE99};
@@ -176,5 +178,8 @@ fn main() {
             let list: Vec<_> = (0..MATRICES).map(|_| indefinite(n, &mut random)).collect();
             report(method, n, "indefinite", &list);
         }
+    }
+    for n in [8, 24, 48] {
+        solve::report(n, &mut random);
     }
 }

@@ -1,5 +1,5 @@
-//! Factors an indefinite matrix by SE99 and prints L, e and p; then shows a refusal, a tie with and without
-//! contract numbers, and what is broken in records.
+//! Factors an indefinite matrix by SE99, solves with the factor and prints L, e, p and y; then shows a refusal,
+//! a tie with and without contract numbers, and what is broken in records.
 
 use millracer::{mod_cholesky_gmw81, mod_cholesky_numbered, mod_cholesky_se99, record_answer};
 use millracer::{Decomposition, Method, Refusal};
@@ -14,7 +14,7 @@ fn step(found: Option<usize>) -> String {
     found.map_or("none".to_string(), |step| step.to_string())
 }
 
-fn factor(a: &[f64]) {
+fn factor(a: &[f64], b: &[f64]) {
     match mod_cholesky_se99(a, N) {
         Ok(d) => {
             for values in d.l.chunks(N) {
@@ -24,6 +24,10 @@ fn factor(a: &[f64]) {
             println!("p {} {} {}", d.p[0], d.p[1], d.p[2]);
             println!("tied step {}", step(d.tied));
             println!("phase-two step {}", step(d.phase2));
+            match d.solve(b) {
+                Ok(y) => println!("y{}", row(&y)),
+                Err(refusal) => println!("{}", number_and_place(refusal)),
+            }
         }
         Err(refusal) => println!("{}", number_and_place(refusal)),
     }
@@ -60,8 +64,10 @@ fn answer(record: &[u8]) {
 }
 
 fn main() {
-    factor(&[1.0, 2.0, 0.5, 2.0, 4.0, 1.5, 0.5, 1.5, 0.5]);
-    factor(&[1.0, 2.0, 0.5, 2.0, 4.0, 1.5, 0.5, 1.25, 0.5]);
+    // The column of contract 1, for which nothing is added.
+    let b = [2.0, 4.0, 1.5];
+    factor(&[1.0, 2.0, 0.5, 2.0, 4.0, 1.5, 0.5, 1.5, 0.5], &b);
+    factor(&[1.0, 2.0, 0.5, 2.0, 4.0, 1.5, 0.5, 1.25, 0.5], &b);
     // After the first swap contract 0 stands last, so that the first in position is contract 1.
     let tied = [1.0, 0.0, 0.0, 0.0, 1.0, 0.0, 0.0, 0.0, 3.0];
     println!("no numbers: {}", pivots(mod_cholesky_gmw81(&tied, N)));

@@ -105,6 +105,30 @@ extern "C" {
         p: *mut u8,
         p_len: usize,
     ) -> Factorization;
+    pub fn millracer_solve_doubles(
+        l: *const f64,
+        l_len: usize,
+        n: usize,
+        p: *const usize,
+        p_len: usize,
+        b: *const f64,
+        b_len: usize,
+        y: *mut f64,
+        y_len: usize,
+    ) -> Refusal;
+    // By the comparison alone.
+    #[allow(dead_code)]
+    pub fn millracer_solve_bytes(
+        l: *const u8,
+        l_len: usize,
+        n: usize,
+        p: *const u8,
+        p_len: usize,
+        b: *const u8,
+        b_len: usize,
+        y: *mut u8,
+        y_len: usize,
+    ) -> Refusal;
     pub fn millracer_record(
         record: *const u8,
         record_len: usize,

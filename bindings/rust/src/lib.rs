@@ -1,5 +1,5 @@
-//! Millracer's proved calls: the modified Cholesky factorizations GMW81, SE90 and SE99, the Gershgorin
-//! circles, plain matrix helpers and the square root.
+//! Millracer's proved calls: the modified Cholesky factorizations GMW81, SE90 and SE99, solving with the
+//! factor, the Gershgorin circles, plain matrix helpers and the square root.
 //!
 //! A matrix is a slice of n rows of n doubles in row order, n from 1 to [`MAX_N`]; rows, columns, steps
 //! and places count from 0. No call panics: what it can't accept it refuses.
@@ -17,6 +17,7 @@ mod helpers;
 mod record;
 mod refusal;
 mod root;
+mod solve;
 
 pub use factor::{
     factor, factor_numbered, mod_cholesky_gmw81, mod_cholesky_numbered, mod_cholesky_se90,
@@ -29,6 +30,7 @@ pub use helpers::{
 pub use record::{record, record_answer, RecordAnswer};
 pub use refusal::Refusal;
 pub use root::sqrt;
+pub use solve::solve;
 
 /// The largest n of a matrix.
 pub const MAX_N: usize = 48;

@@ -4,7 +4,7 @@ use std::fmt;
 
 /// Why a call was refused, by number. Only a record is refused 1, 10 and 11: 1 where it is too long, then
 /// 10 or 11 of its first offending field, then 1 for the rest, then 2 and so on in checking order. 12 and 13
-/// come after 4 and before 5, where there are contract numbers.
+/// come after 4 and before 5, where there are contract numbers; 14 comes after 5 and 15 after 7, in solving.
 #[derive(Clone, Copy, Debug, PartialEq, Eq)]
 pub enum Refusal {
     /// A record that is too long, or has a wrong length of field 01 or 02, or bytes after the last field.
@@ -16,7 +16,7 @@ pub enum Refusal {
     MatrixLength,
     /// A lent buffer of another length than its own.
     BufferLength,
-    /// The first index not below n, by its position among those given.
+    /// The first index not below n, by its position among those given; in solving also one that came before.
     IndexOutOfRange {
         position: usize,
     },
@@ -49,6 +49,12 @@ pub enum Refusal {
     NumberRepeated {
         position: usize,
     },
+    /// A pivot order or a right side without n elements.
+    ListLength,
+    /// The first row of L whose diagonal entry is zero, of either sign.
+    ZeroDiagonal {
+        row: usize,
+    },
 }
 
 /// The tags due at a field of a matrix record, from 0: before the entries contract numbers may stand.
@@ -62,7 +68,7 @@ fn tags_due(field: usize) -> &'static str {
 }
 
 impl Refusal {
-    /// From 1 to 13.
+    /// From 1 to 15.
     pub fn number(self) -> usize {
         match self {
             Refusal::MalformedRecord => 1,
@@ -78,6 +84,8 @@ impl Refusal {
             Refusal::TagNotDue { .. } => 11,
             Refusal::NumbersLength => 12,
             Refusal::NumberRepeated { .. } => 13,
+            Refusal::ListLength => 14,
+            Refusal::ZeroDiagonal { .. } => 15,
         }
     }
 
@@ -91,6 +99,7 @@ impl Refusal {
             Refusal::FieldPastEnd { field } => (field, 0),
             Refusal::TagNotDue { field, .. } => (field, 0),
             Refusal::NumberRepeated { position } => (position, 0),
+            Refusal::ZeroDiagonal { row } => (row, 0),
             _ => (0, 0),
         }
     }
@@ -131,6 +140,8 @@ impl fmt::Display for Refusal {
             Refusal::NumberRepeated { position } => {
                 write!(f, "row {position} has the contract number of an earlier row")
             }
+            Refusal::ListLength => write!(f, "the pivot order or the right side has a wrong length"),
+            Refusal::ZeroDiagonal { row } => write!(f, "the diagonal of L is zero at row {row}"),
         }
     }
 }
@@ -153,6 +164,8 @@ pub(crate) fn ended(r: ffi::Refusal) -> Result<(), Refusal> {
         9 => Refusal::StoredNotFinite { step: row },
         12 => Refusal::NumbersLength,
         13 => Refusal::NumberRepeated { position: row },
+        14 => Refusal::ListLength,
+        15 => Refusal::ZeroDiagonal { row },
         number => unreachable!("no refusal has the number {number}"),
     })
 }

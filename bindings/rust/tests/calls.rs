@@ -238,6 +238,61 @@ fn load_order_by_number() {
     assert_eq!(first.p, contracts);
 }
 
+const FACTOR: [f64; 4] = [2.0, f64::NAN, 1.0, 1.0];
+
+#[test]
+fn solutions() {
+    let d = mod_cholesky_gmw81(&[2.0, 2.0, 2.0, 4.0], 2).unwrap();
+    assert_eq!(d.solve(&[6.0, 10.0]), Ok(vec![1.0, 2.0]));
+    let mut y = [7.0; 2];
+    assert_eq!(solve(&FACTOR, 2, &[1, 0], &[6.0, 10.0], &mut y), Ok(()));
+    assert_eq!(y, [1.0, 2.0]);
+    let d = mod_cholesky_se99(&diag_mat_from_arr(&[4.0; 48]).unwrap(), 48).unwrap();
+    assert_eq!(d.solve(&[8.0; 48]), Ok(vec![2.0; 48]));
+    assert_eq!(d.solve(&[8.0; 47]), Err(Refusal::ListLength));
+    for n in [0, 49, usize::MAX] {
+        let other = Decomposition { n, ..d.clone() };
+        assert_eq!(other.solve(&[8.0; 48]), Err(Refusal::SizeOutOfRange));
+    }
+}
+
+/// 3, 4, 5, 14, 6, 7, 15, each before the next; y stays as it is.
+#[test]
+fn refused_systems() {
+    let refused = |l: &[f64], n: usize, p: &[usize], b: &[f64], y_len: usize| {
+        let mut y = vec![7.0; y_len];
+        let refusal = solve(l, n, p, b, &mut y).unwrap_err();
+        assert!(y.iter().all(|&x| x == 7.0));
+        refusal
+    };
+    let nan = [f64::NAN; 4];
+    let zeros = [0.0, f64::NAN, 1.0, -0.0];
+    assert_eq!(refused(&nan[1..], 49, &[5], &[], 1).number(), 3);
+    assert_eq!(refused(&nan[1..], 2, &[5], &[], 1).number(), 4);
+    assert_eq!(refused(&nan, 2, &[5], &[], 1).number(), 5);
+    assert_eq!(refused(&nan, 2, &[5], &nan[2..], 2), Refusal::ListLength);
+    assert_eq!(refused(&nan, 2, &[5, 5], &[], 2), Refusal::ListLength);
+    for p in [[1, 1], [0, 2], [0, 256], [1, usize::MAX]] {
+        let repeated = Refusal::IndexOutOfRange { position: 1 };
+        assert_eq!(refused(&nan, 2, &p, &nan[2..], 2), repeated);
+    }
+    let entry = Refusal::NotFinite { row: 0, column: 0 };
+    assert_eq!(refused(&nan, 2, &[1, 0], &nan[2..], 2), entry);
+    let right = Refusal::NotFinite { row: 1, column: 0 };
+    assert_eq!(refused(&zeros, 2, &[1, 0], &[1.0, f64::NAN], 2), right);
+    let zero = Refusal::ZeroDiagonal { row: 0 };
+    assert_eq!(refused(&zeros, 2, &[1, 0], &[1.0, 1.0], 2), zero);
+}
+
+#[test]
+fn overflow_in_solving() {
+    let low = 2f64.powi(-600);
+    let mut y = [7.0; 2];
+    let ended = solve(&[1.0, 0.0, 0.0, low], 2, &[1, 0], &[1.0, 1.0], &mut y);
+    assert_eq!(ended, Err(Refusal::StoredNotFinite { step: 1 }));
+    assert_eq!(y.map(f64::to_bits), [0, 0]);
+}
+
 #[test]
 fn refusals_in_words() {
     let refusal = mod_cholesky_se99(&[1.0, 2.0, 3.0, 1.0], 2).unwrap_err();
@@ -394,6 +449,16 @@ fn broken_records_in_words() {
     assert_eq!(
         Refusal::NumberRepeated { position: 2 }.to_string(),
         "refusal 13: row 2 has the contract number of an earlier row"
+    );
+    assert_eq!(
+        Refusal::ListLength.to_string(),
+        "refusal 14: the pivot order or the right side has a wrong length"
+    );
+    let zero = Refusal::ZeroDiagonal { row: 3 };
+    assert_eq!((zero.number(), zero.place()), (15, (3, 0)));
+    assert_eq!(
+        zero.to_string(),
+        "refusal 15: the diagonal of L is zero at row 3"
     );
     assert_eq!(
         words(&[&MATRIX[..], &[0]].concat()),

@@ -48,3 +48,12 @@ pub first-none : (bad : ℕ → Bool) (n : ℕ) → ((k : ℕ) → k < n → bad
 first-none bad n g =
     let F : First bad 0 n n = record { from = omega arith; most = omega arith; good = λ k p q. g k q; here = λ h. absurd (omega arith) } in
     omega (arith, first-unique bad n (first bad n) n (first-is bad n) F, first-unique bad n n (first bad n) F (first-is bad n))
+
+-- two searches whose tests say the same
+same-from : (f g : ℕ → Bool) (a k : ℕ) → ((i : ℕ) → i < a + k → f i ≡ g i) → firstFrom f a k ≡ firstFrom g a k
+unfolding firstFrom
+same-from f g a zero e = refl
+same-from f g a (suc k) e = rw (e a (omega arith), same-from f g (suc a) k (λ i h. e i (omega arith)))
+
+pub same-first : (f g : ℕ → Bool) (n : ℕ) → ((i : ℕ) → i < n → f i ≡ g i) → first f n ≡ first g n
+same-first f g n e = same-from f g 0 n (λ i h. e i (omega arith))

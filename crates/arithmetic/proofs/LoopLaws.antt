@@ -1,5 +1,5 @@
 -- Loops' laws and induction principles.
-use mathlib.Core.Path.{_≡_, sym, ap, _∙_, subst}
+use mathlib.Core.Path.{_≡_, refl, sym, ap, _∙_, subst}
 use Prim.Native.Nat.{ℕ, zero, suc, _+_, _-_, _≤_, _<_}
 use native.Mathlib.Omega.{arith}
 use Rattle.arithmetic.specs.Loop.{times, range}
@@ -58,3 +58,7 @@ range2-ind R a b f g s s' le z h =
     subst (λ (x : ℕ). R x (times (b - a) (λ k. f (a + k)) s) (times (b - a) (λ k. g (a + k)) s')) (omega arith)
     (times2-ind (λ k t t'. R (a + k) t t') (b - a) (λ k. f (a + k)) (λ k. g (a + k)) s s' (subst (λ (x : ℕ). R x s s') (omega arith) z)
     (λ k l t t' p. subst (λ (x : ℕ). R x (f (a + k) t) (g (a + k) t')) (omega arith) (h (a + k) (omega arith) (omega arith) t t' p)))
+
+-- two loops whose turns do the same
+pub same-loops : {S : Type 0} (a b : ℕ) (f g : ℕ → S → S) (s : S) → a ≤ b → ((i : ℕ) → a ≤ i → i < b → (t : S) → f i t ≡ g i t) → range a b f s ≡ range a b g s
+same-loops a b f g s h e = range2-ind (λ i t u. t ≡ u) a b f g s s h refl (λ i p q t u k. ap (f i) k ∙ e i p q u)

@@ -2,7 +2,7 @@
 use mathlib.Core.Path.{_≡_, refl, sym, _∙_}
 use mathlib.Core.Bool.{Bool, true, false, false≢true}
 use Rattle.arithmetic.specs.declared.outcome.Outcome.{Outcome}
-use Rattle.arithmetic.specs.declared.outcome.Outcome.the-variants.{Complete, MalformedRecord, UnknownMethod, SizeOutOfRange, MatrixLength, BufferLength, IndexOutOfRange, NotFinite, Unsymmetric, StoredNotFinite, FieldPastEnd, TagNotDue, NumbersLength, NumberRepeated}
+use Rattle.arithmetic.specs.declared.outcome.Outcome.the-variants.{Complete, MalformedRecord, UnknownMethod, SizeOutOfRange, MatrixLength, BufferLength, IndexOutOfRange, NotFinite, Unsymmetric, StoredNotFinite, FieldPastEnd, TagNotDue, NumbersLength, NumberRepeated, ListLength, ZeroDiagonal}
 use Rattle.arithmetic.specs.Outcome.{complete, refuse, _then_}
 
 pub complete-is : (o : Outcome) → complete o ≡ true → o ≡ Complete
@@ -20,6 +20,8 @@ complete-is (FieldPastEnd field) h = absurd (false≢true h)
 complete-is (TagNotDue field) h = absurd (false≢true h)
 complete-is NumbersLength h = absurd (false≢true h)
 complete-is (NumberRepeated position) h = absurd (false≢true h)
+complete-is ListLength h = absurd (false≢true h)
+complete-is (ZeroDiagonal row) h = absurd (false≢true h)
 
 -- what is complete passed each of its checks
 pub then-complete : (o rest : Outcome) → complete (o then rest) ≡ true → (complete o ≡ true) × (complete rest ≡ true)

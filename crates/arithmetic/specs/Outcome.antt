@@ -1,9 +1,9 @@
--- The number and place of each way a call can end: document 01, 'Refusals, in checking order'; 10 to 13 are document 02's, N1 and N2.
+-- The number and place of each way a call can end: document 01, 'Refusals, in checking order'; 10 to 15 are document 02's, N1 to N3.
 use Prim.Native.Nat.{ℕ}
 use mathlib.Core.Bool.{Bool, cond}
 use lib.Dec.{eqb}
 use Rattle.arithmetic.specs.declared.outcome.Outcome.{Outcome}
-use Rattle.arithmetic.specs.declared.outcome.Outcome.the-variants.{Complete, MalformedRecord, UnknownMethod, SizeOutOfRange, MatrixLength, BufferLength, IndexOutOfRange, NotFinite, Unsymmetric, StoredNotFinite, FieldPastEnd, TagNotDue, NumbersLength, NumberRepeated}
+use Rattle.arithmetic.specs.declared.outcome.Outcome.the-variants.{Complete, MalformedRecord, UnknownMethod, SizeOutOfRange, MatrixLength, BufferLength, IndexOutOfRange, NotFinite, Unsymmetric, StoredNotFinite, FieldPastEnd, TagNotDue, NumbersLength, NumberRepeated, ListLength, ZeroDiagonal}
 use Rattle.arithmetic.specs.declared.outcome.Place.{Place}
 
 abbrev pub number : Outcome → ℕ
@@ -21,8 +21,10 @@ number (FieldPastEnd field) = 10
 number (TagNotDue field) = 11
 number NumbersLength = 12
 number (NumberRepeated position) = 13
+number ListLength = 14
+number (ZeroDiagonal row) = 15
 
--- a position, step or field
+-- a position, row, step or field
 abbrev pub alone : ℕ → Place
 alone row = record { row = row; column = 0 }
 
@@ -45,6 +47,8 @@ place (FieldPastEnd field) = alone field
 place (TagNotDue field) = alone field
 place NumbersLength = nowhere
 place (NumberRepeated position) = alone position
+place ListLength = nowhere
+place (ZeroDiagonal row) = alone row
 
 -- ---- checks: each is an outcome, and the first that fails decides
 abbrev pub complete : Outcome → Bool

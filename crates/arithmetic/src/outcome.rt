@@ -3,7 +3,7 @@ ghost use mathlib.Core.Path.{_≡_};
 ghost use Rattle.arithmetic.specs.Outcome.{number, alone, place, complete, _then_};
 
 // By their numbers. A record is checked for 1 (too long), 10 or 11, 1 (lengths, bytes after the last field), then 2 on; 12 and 13 come
-// between 4 and 5.
+// between 4 and 5, 14 between 5 and 6, and 15 after 7.
 pub enum Outcome {
     Complete,
     // The record is too long, or its fields stand in order and a length, or a byte after them, is wrong.
@@ -13,7 +13,7 @@ pub enum Outcome {
     SizeOutOfRange,
     MatrixLength,
     BufferLength,
-    // An index not below n, by its position among those given.
+    // An index not below n, or in a list that has each once one that came before, by its position among those given.
     IndexOutOfRange { position: usize },
     // An entry or operand that is infinite or NaN.
     NotFinite { row: usize, column: usize },
@@ -28,6 +28,10 @@ pub enum Outcome {
     NumbersLength,
     // A contract number that came before.
     NumberRepeated { position: usize },
+    // The length of p or b isn't n.
+    ListLength,
+    // A diagonal entry of L is zero, of either sign.
+    ZeroDiagonal { row: usize },
 }
 
 // Row and column, or position, step or field and 0; 0 and 0 where no place is named.
@@ -64,6 +68,8 @@ impl Outcome {
             Outcome::TagNotDue { field: _ } => 11,
             Outcome::NumbersLength => 12,
             Outcome::NumberRepeated { position: _ } => 13,
+            Outcome::ListLength => 14,
+            Outcome::ZeroDiagonal { row: _ } => 15,
         }
     }
 
@@ -91,6 +97,7 @@ impl Outcome {
             Outcome::FieldPastEnd { field } => Place::alone(field),
             Outcome::TagNotDue { field } => Place::alone(field),
             Outcome::NumberRepeated { position } => Place::alone(position),
+            Outcome::ZeroDiagonal { row } => Place::alone(row),
             Outcome::Complete => Place::alone(0),
             Outcome::MalformedRecord => Place::alone(0),
             Outcome::UnknownMethod => Place::alone(0),
@@ -98,6 +105,7 @@ impl Outcome {
             Outcome::MatrixLength => Place::alone(0),
             Outcome::BufferLength => Place::alone(0),
             Outcome::NumbersLength => Place::alone(0),
+            Outcome::ListLength => Place::alone(0),
         }
     }
 }

@@ -4,7 +4,7 @@ ghost use Prim.Native.Nat.{_*_, _/_, _<_};
 ghost use lib.ListN.{length};
 ghost use lib.Ieee.{binary64, ofBits};
 ghost use lib.Ieee.Scale.{finite};
-ghost use Rattle.matrix.specs.Checks.{check-buffer, check-indices, check-finite, check-distinct, firstNotFinite, firstSame};
+ghost use Rattle.matrix.specs.Checks.{check-buffer, check-indices, check-finite, check-distinct, check-list, firstNotFinite, firstSame};
 ghost use Rattle.encoding.specs.Bytes.{doubles, numbers};
 ghost use Rattle.encoding.specs.Checks.{check-whole, check-entries, check-number-bytes, number-byte-checks};
 use crate::read::read_contract_number;
@@ -67,7 +67,7 @@ pub fn check_indices(n: usize, idxs: &[u8]) -> Outcome
 }
 
 // The exponent's field isn't all ones.
-fn finite_pattern(v: u64) -> bool
+pub fn finite_pattern(v: u64) -> bool
     ensures { λ r. ⌜ r ≡ finite (ofBits binary64 v) ⌝ }
 {
     v % 0x8000_0000_0000_0000 / 0x10_0000_0000_0000 != 2047
@@ -143,4 +143,14 @@ pub fn number_byte_checks(n: usize, b: &[u8]) -> Outcome
         return lengths;
     }
     check_distinct(b)
+}
+
+// 14: n doubles.
+pub fn check_double_list(n: usize, len: usize) -> Outcome
+    ensures { λ r. ⌜ r ≡ check-list (8 * n) len ⌝ }
+{
+    if len % 8 != 0 {
+        return Outcome::ListLength;
+    }
+    checks::check_list(n, len / 8)
 }

@@ -1,4 +1,4 @@
-// Numbers, doubles and contract numbers read from bytes.
+// Numbers, doubles, contract numbers and indices read from bytes.
 ghost use mathlib.Core.Path.{_≡_};
 ghost use mathlib.Core.Bool.{true};
 ghost use mathlib.Core.List.{[], _∷_};
@@ -71,5 +71,16 @@ pub fn read_numbers(b: &[u8], out: &mut [u32])
     let count = out.len();
     for k in 0..count {
         out[k] = read_contract_number(b, 4 * k);
+    }
+}
+
+// One byte for each index.
+pub fn read_order(b: &[u8], p: &mut [usize])
+    requires { ⌜ length (now b) ≡ length (now p) ⌝ }
+    ensures { λ _. ⌜ now (p .exit) ≡ now (b .entry) ⌝ }
+{
+    let count = p.len();
+    for k in 0..count {
+        p[k] = whole(b[k]);
     }
 }

@@ -8,6 +8,8 @@ use Rattle.arithmetic.specs.declared.sqrt.SqrtAnswer.{SqrtAnswer}
 use Rattle.matrix.specs.Calls.{MatrixCall}
 use Rattle.byte_helpers.specs.Helpers.{CirclesBytesCall}
 use Rattle.byte_factor.specs.Factor.{BytesCall}
+use Rattle.solve.specs.Substitution.{SolveCall}
+use Rattle.byte_solve.specs.Solve.{SolveBytesCall}
 use Rattle.matrix.specs.declared.utils.EigenAnswer.{EigenAnswer}
 use Rattle.matrix.specs.declared.utils.SearchAnswer.{SearchAnswer}
 use Rattle.methods.specs.Calls.{Call}
@@ -78,6 +80,20 @@ pub record FactorDoublesExport : Type 0 where
 
 abbrev pub factorDoublesExport : Call → FactorDoublesExport
 factorDoublesExport c = record { factorization = factorization (c .decomposition); l = c .l; work = c .work; e = c .e; p = c .p }
+
+pub record SolveBytesExport : Type 0 where
+  pub refusal : Refusal
+  pub y : List ℕ
+
+abbrev pub solveBytesExport : SolveBytesCall → SolveBytesExport
+solveBytesExport c = record { refusal = refusal (c .outcome); y = c .y }
+
+pub record SolveDoublesExport : Type 0 where
+  pub refusal : Refusal
+  pub y : List Float
+
+abbrev pub solveDoublesExport : SolveCall → SolveDoublesExport
+solveDoublesExport c = record { refusal = refusal (c .outcome); y = c .y }
 
 pub record RecordExport : Type 0 where
   pub written : Written

@@ -4,3 +4,4 @@ pub mod helpers;
 pub mod records;
 pub mod refusal;
 pub mod root;
+pub mod solving;

@@ -35,7 +35,7 @@ module _ (numbering : Outcome) (numbers : List ℕ) (N : Accepted numbering) (me
     p-is = F .p-is;
   }) .is
 
-  call-is : answered n (factor (methodOf method) tolerances numbers n a) ≡ callWith numbering numbers method n a (b .l) (b .work) (b .e) (b .p)
+  pub call-is : answered n (factor (methodOf method) tolerances numbers n a) ≡ callWith numbering numbers method n a (b .l) (b .work) (b .e) (b .p)
   call-is = answers numbering numbers method n a (b .l) (b .work) (b .e) (b .p) (answered n (factor (methodOf method) tolerances numbers n a)) checks-pass refl
 
   call-passes : Passes numbering method n a b (callWith numbering numbers method n a (b .l) (b .work) (b .e) (b .p))

@@ -11,3 +11,4 @@ pub mod Theorem
 pub mod Numbered
 pub mod Calls
 pub mod OwnOrder
+pub mod Solve

@@ -3,3 +3,4 @@ pub mod Calls
 pub mod OwnOrder
 pub mod TieRule
 pub mod Numbered
+pub mod Solve

@@ -1,8 +1,8 @@
 -- Laws of checks: searches for the first bad position, chains of checks, and what an accepted check says.
-use mathlib.Core.Path.{_≡_, refl, sym, ap, _∙_}
+use mathlib.Core.Path.{_≡_, refl, sym, ap, _∙_, subst}
 use mathlib.Core.List.{List}
 use mathlib.Core.Bool.{Bool, true, false, not, _||_, _&&_, cond, true≢false}
-use Prim.Native.Nat.{ℕ, suc, _+_, _-_, _*_, _/_, _%_, _≤_, _<_}
+use Prim.Native.Nat.{ℕ, suc, _+_, _-_, _*_, _≤_, _<_}
 use native.Mathlib.Nat.{sub-zero}
 use native.Mathlib.Numerals.{add-one}
 use native.Mathlib.Decide.{ℕ-discrete, decLt}
@@ -13,7 +13,7 @@ use lib.Dec.{T, eqb, leb, ltb}
 use lib.Ieee.{Float, nan, binary64, toBits, ofBits, fits}
 use lib.Ieee.Bits.{ofBits-toBits}
 use lib.Ieee.Scale.{finite}
-use borrow.Author.Tests.{not-true, not-false, ne-eqb, eqb-true, eqb-false, ltb-true, ltb-false, lt-ltb, le-ltb, leb-true, leb-false, le-leb}
+use borrow.Author.Tests.{not-true, not-false, eq-eqb, ne-eqb, eqb-true, eqb-false, ltb-true, ltb-false, lt-ltb, le-ltb, leb-true, leb-false, le-leb}
 use Rattle.arithmetic.specs.All.{all}
 use Rattle.arithmetic.proofs.AllLaws.{all-each, all-true}
 use Rattle.arithmetic.specs.First.{first, firstFrom}
@@ -22,10 +22,10 @@ use Rattle.arithmetic.proofs.OrderLaws.{or-1, or-2}
 use Rattle.arithmetic.specs.Outcome.{complete, refuse, _then_}
 use Rattle.arithmetic.proofs.OutcomeLaws.{then-complete, refuse-complete}
 use Rattle.arithmetic.specs.declared.outcome.Outcome.{Outcome}
-use Rattle.arithmetic.specs.declared.outcome.Outcome.the-variants.{Complete, SizeOutOfRange, MatrixLength, BufferLength, IndexOutOfRange, NotFinite, Unsymmetric, NumbersLength, NumberRepeated}
+use Rattle.arithmetic.specs.declared.outcome.Outcome.the-variants.{Complete, SizeOutOfRange, MatrixLength, BufferLength, IndexOutOfRange, NumbersLength, ListLength}
 use Rattle.matrix.specs.Matrix.{Square, at}
 use Rattle.matrix.proofs.CellLaws.{cell-lt}
-use Rattle.matrix.specs.Checks.{check-size, check-matrix, check-buffer, check-index, check-indices, check-finite, check-symmetric, check-numbers, check-distinct, outOfRange, notFinite, firstNotFinite, sameBits, unsymmetric, firstUnsymmetric, firstSame, cameBefore, firstRepeated, Distinct, AllFinite}
+use Rattle.matrix.specs.Checks.{check-size, check-matrix, check-buffer, check-index, check-indices, check-finite, check-symmetric, check-numbers, check-distinct, check-list, outOfRange, notFinite, sameBits, unsymmetric, firstSame, cameBefore, firstRepeated, Distinct, AllFinite}
 use Rattle.matrix.specs.Plain.{AllBelow}
 use Rattle.arithmetic.proofs.Cases.{same-tests}
 
@@ -102,6 +102,30 @@ pub refuse-keeps : (P : Outcome → Type 0) (bad : Bool) (refusal : Outcome) →
 refuse-keeps P true refusal p q = q refl
 refuse-keeps P false refusal p q = p
 
+-- ---- what passes a check
+pub good-accepted : (bad : Bool) (refusal : Outcome) → bad ≡ false → Accepted (refuse bad refusal)
+good-accepted bad refusal e = record { is = rw e refl }
+
+pub then-accepted : {o rest : Outcome} → Accepted o → Accepted rest → Accepted (o then rest)
+then-accepted {o} {rest} A B = subst Accepted (goes-on A refl) B
+
+pub size-passes : (n : ℕ) → 1 ≤ n → n ≤ 48 → Accepted (check-size n)
+size-passes n p q = good-accepted (eqb n 0 || ltb 48 n) SizeOutOfRange (rw (ne-eqb n 0 (λ e. omega arith), le-ltb 48 n q) refl)
+
+-- a length, whatever its refusal
+pub length-passes : (wanted len : ℕ) (refusal : Outcome) → len ≡ wanted → Accepted (refuse (not (eqb len wanted)) refusal)
+length-passes wanted len refusal e = good-accepted (not (eqb len wanted)) refusal (ap not (eq-eqb len wanted e))
+
+-- a check that searches passes exactly where no position is bad
+module _ (bad : ℕ → Bool) (n : ℕ) (refusal : Outcome) where
+  pub none-found : complete refusal ≡ false → Accepted (refuse (ltb (first bad n) n) refusal) → (i : ℕ) → i < n → bad i ≡ false
+  none-found r h i l =
+      let q : n ≤ first bad n = ltb-false (first bad n) n (refuse-complete (ltb (first bad n) n) refusal r (h .is)) in
+      first-is bad n .good i (omega arith) (omega arith)
+
+  pub none-passes : ((i : ℕ) → i < n → bad i ≡ false) → Accepted (refuse (ltb (first bad n) n) refusal)
+  none-passes h = good-accepted _ refusal (le-ltb (first bad n) n (omega (arith, first-none bad n h)))
+
 -- ---- what an accepted check says
 pub size-accepted : (n : ℕ) → Accepted (check-size n) → (0 < n) × (n ≤ 48)
 size-accepted n h =
@@ -118,16 +142,10 @@ pub index-accepted : (n position index : ℕ) → Accepted (check-index n positi
 index-accepted n position index h = leb-false n index (refuse-complete (leb n index) (IndexOutOfRange position) refl (h .is))
 
 pub indices-accepted : (n : ℕ) (idxs : List ℕ) → Accepted (check-indices n idxs) → AllBelow n idxs
-indices-accepted n idxs h k l =
-    let f = first (outOfRange n idxs) (length idxs) in
-    let q : length idxs ≤ f = ltb-false f (length idxs) (refuse-complete (ltb f (length idxs)) (IndexOutOfRange f) refl (h .is)) in
-    leb-false n (getD idxs k 0) (first-is (outOfRange n idxs) (length idxs) .good k (omega arith) (omega arith))
+indices-accepted n idxs h k l = leb-false n (getD idxs k 0) (none-found (outOfRange n idxs) (length idxs) _ refl h k l)
 
 pub finite-accepted : (n : ℕ) (m : List Float) → Accepted (check-finite n m) → (k : ℕ) → k < length m → finite (getD m k nan) ≡ true
-finite-accepted n m h k l =
-    let f = firstNotFinite m in
-    let q : length m ≤ f = ltb-false f (length m) (refuse-complete (ltb f (length m)) (NotFinite (f / n) (f % n)) refl (h .is)) in
-    not-false (finite (getD m k nan)) (first-is (notFinite m) (length m) .good k (omega arith) (omega arith))
+finite-accepted n m h k l = not-false (finite (getD m k nan)) (none-found (notFinite m) (length m) _ refl h k l)
 
 pub entries-accepted : (n : ℕ) (m : List Float) → Square n m → Accepted (check-finite n m) → AllFinite n m
 entries-accepted n m s h i j p q = finite-accepted n m h (i * n + j) (omega (arith, s .len, cell-lt n i j p q))
@@ -146,12 +164,8 @@ same-bits x y p q h = sym (ofBits-toBits binary64 x p) ∙ ap (ofBits binary64) 
 module _ (n : ℕ) (m : List Float) (doubles : (i j : ℕ) → i < n → j < n → T (fits binary64 (at n m i j))) (h : Accepted (check-symmetric n m)) where
   above : (i j : ℕ) → i < j → j < n → at n m i j ≡ at n m j i
   above i j l q =
-      let f = firstUnsymmetric n m in
-      let k = i * n + j in
       let p : i < n = omega arith in
-      let c : k < n * n = cell-lt n i j p q in
-      let w : n * n ≤ f = ltb-false f (n * n) (refuse-complete (ltb f (n * n)) (Unsymmetric (f / n) (f % n)) refl (h .is)) in
-      let g : ltb i j && mismatch n m i j ≡ false = sym (unsymmetric-at n m i j q) ∙ first-is (unsymmetric n m) (n * n) .good k (omega arith) (omega arith) in
+      let g : ltb i j && mismatch n m i j ≡ false = sym (unsymmetric-at n m i j q) ∙ none-found (unsymmetric n m) (n * n) _ refl h (i * n + j) (cell-lt n i j p q) in
       same-bits (at n m i j) (at n m j i) (doubles i j p q) (doubles j i q p) (not-false (sameBits (at n m i j) (at n m j i)) (rw (lt-ltb i j l) at g))
 
   pub symmetric-accepted : (i j : ℕ) → i < n → j < n → at n m i j ≡ at n m j i
@@ -159,6 +173,9 @@ module _ (n : ℕ) (m : List Float) (doubles : (i j : ℕ) → i < n → j < n �
     | yes l ↦ above i j l q
     | no l ↦ elim (ℕ-discrete i j) [ yes e ↦ rw e | no d ↦ sym (above j i (omega arith) p) ]
   ]
+
+pub list-accepted : (wanted len : ℕ) → Accepted (check-list wanted len) → len ≡ wanted
+list-accepted wanted len h = eqb-true len wanted (not-false (eqb len wanted) (refuse-complete (not (eqb len wanted)) ListLength refl (h .is)))
 
 -- ---- contract numbers
 pub numbers-accepted : (n len : ℕ) → Accepted (check-numbers n len) → len ≡ n
@@ -180,21 +197,16 @@ module _ (numbers : List ℕ) where
   }
     where
       fresh : (k : ℕ) → k < length numbers → cameBefore numbers k ≡ false
-      fresh k q =
-          let w : length numbers ≤ firstRepeated numbers = ltb-false (firstRepeated numbers) (length numbers) (refuse-complete (ltb (firstRepeated numbers) (length numbers)) (NumberRepeated (firstRepeated numbers)) refl (h .is)) in
-          first-is (cameBefore numbers) (length numbers) .good k (omega arith) (omega arith)
+      fresh = none-found (cameBefore numbers) (length numbers) _ refl h
 
   pub distinct-passes : Distinct numbers → Accepted (check-distinct numbers)
-  distinct-passes D = record { is = rw (none, le-ltb (length numbers) (length numbers) (omega arith)) }
+  distinct-passes D = none-passes (cameBefore numbers) (length numbers) _ fresh
     where
       differ : (k : ℕ) → k < length numbers → (i : ℕ) → i < k → eqb (getD numbers i 0) (getD numbers k 0) ≡ false
       differ k q i l = ne-eqb (getD numbers i 0) (getD numbers k 0) (λ e. omega (arith, D .once i k (omega arith) q e))
 
       fresh : (k : ℕ) → k < length numbers → cameBefore numbers k ≡ false
       fresh k q = rw (first-none (λ i. eqb (getD numbers i 0) (getD numbers k 0)) k (differ k q), le-ltb k k (omega arith))
-
-      none : firstRepeated numbers ≡ length numbers
-      none = first-none (cameBefore numbers) (length numbers) fresh
 
   -- 13's place: its number stands before it, and before it no number stands twice
   pub repeated-first : firstRepeated numbers < length numbers

@@ -1,4 +1,4 @@
--- The checks that calls share, each with its refusal and place (document 01, 'Refusals, in checking order'; 12 and 13 are document 02's).
+-- The checks that calls share, each with its refusal and place (document 01, 'Refusals, in checking order'; 12 to 14 are document 02's).
 use mathlib.Core.List.{List}
 use mathlib.Core.Path.{_≡_}
 use mathlib.Core.Bool.{Bool, true, not, _||_, _&&_}
@@ -10,7 +10,7 @@ use lib.Ieee.Scale.{finite}
 use Rattle.arithmetic.specs.First.{first, firstFrom}
 use Rattle.arithmetic.specs.Outcome.{refuse}
 use Rattle.arithmetic.specs.declared.outcome.Outcome.{Outcome}
-use Rattle.arithmetic.specs.declared.outcome.Outcome.the-variants.{SizeOutOfRange, MatrixLength, BufferLength, IndexOutOfRange, NotFinite, Unsymmetric, NumbersLength, NumberRepeated}
+use Rattle.arithmetic.specs.declared.outcome.Outcome.the-variants.{SizeOutOfRange, MatrixLength, BufferLength, IndexOutOfRange, NotFinite, Unsymmetric, NumbersLength, NumberRepeated, ListLength}
 use Rattle.matrix.specs.Matrix.{at}
 
 -- 3: n of 0 or above 48
@@ -84,6 +84,10 @@ firstRepeated numbers = first (cameBefore numbers) (length numbers)
 
 abbrev pub check-distinct : List ℕ → Outcome
 check-distinct numbers = refuse (ltb (firstRepeated numbers) (length numbers)) (NumberRepeated (firstRepeated numbers))
+
+-- 14: a list of n
+abbrev pub check-list : ℕ → ℕ → Outcome
+check-list wanted len = refuse (not (eqb len wanted)) ListLength
 
 -- no two numbers are equal
 pub record Distinct (numbers : List ℕ) : Type 0 where

@@ -7,7 +7,7 @@ ghost use lib.Ieee.{nan};
 ghost use lib.Ieee.Scale.{finite};
 ghost use Rattle.arithmetic.specs.All.{all};
 ghost use Rattle.matrix.specs.Matrix.{Square};
-ghost use Rattle.matrix.specs.Checks.{check-size, check-some, check-matrix, check-buffer, check-index, check-indices, check-finite, check-symmetric, check-numbers, check-distinct, firstNotFinite, firstMismatch, firstSame, AllFinite};
+ghost use Rattle.matrix.specs.Checks.{check-size, check-some, check-matrix, check-buffer, check-index, check-indices, check-finite, check-symmetric, check-numbers, check-distinct, check-list, firstNotFinite, firstMismatch, firstSame, AllFinite};
 use crate::entries::get;
 use arithmetic::double::finite;
 use arithmetic::outcome::Outcome;
@@ -205,6 +205,16 @@ pub fn check_distinct(numbers: &[u32]) -> Outcome
         if i < k {
             return Outcome::NumberRepeated { position: k };
         }
+    }
+    Outcome::Complete
+}
+
+// A list of as many as wanted.
+pub fn check_list(wanted: usize, len: usize) -> Outcome
+    ensures { λ r. ⌜ r ≡ check-list wanted len ⌝ }
+{
+    if len != wanted {
+        return Outcome::ListLength;
     }
     Outcome::Complete
 }

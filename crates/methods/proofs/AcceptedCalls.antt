@@ -1,26 +1,23 @@
 -- The checks of a factorization call pass exactly where its operands are accepted; so they pass a reloading too.
 use mathlib.Core.Path.{_≡_, refl, sym, ap, _∙_, subst}
 use mathlib.Core.List.{List}
-use mathlib.Core.Bool.{Bool, true, false, not, _&&_, _||_, and-false}
+use mathlib.Core.Bool.{Bool, true, not, _&&_, and-false}
 use Prim.Native.Nat.{ℕ, _+_, _*_, _/_, _%_, _≤_, _<_}
 use native.Mathlib.Nat.{div-add-mod', div-lt-iff-lt-mul, mod-lt}
 use native.Mathlib.Omega.{arith}
-use lib.Dec.{T, eqb, leb, ltb}
+use lib.Dec.{T, leb, ltb}
 use lib.ListN.{length, getD}
 use lib.Ieee.{Float, nan, binary64, fits, toBits}
 use lib.Ieee.Scale.{finite}
-use borrow.Author.Tests.{not-false, leb-true, le-leb, eq-eqb, ne-eqb, le-ltb}
-use Rattle.arithmetic.specs.First.{first}
-use Rattle.arithmetic.specs.Outcome.{refuse, _then_}
+use borrow.Author.Tests.{not-false, leb-true, le-leb, eq-eqb}
 use Rattle.arithmetic.specs.declared.outcome.Outcome.{Outcome}
-use Rattle.arithmetic.specs.declared.outcome.Outcome.the-variants.{Complete, UnknownMethod, SizeOutOfRange}
-use Rattle.arithmetic.proofs.FirstLaws.{first-none}
+use Rattle.arithmetic.specs.declared.outcome.Outcome.the-variants.{Complete, UnknownMethod, MatrixLength, BufferLength, NumbersLength}
 use Rattle.arithmetic.proofs.OrderLaws.{and-1, and-2}
 use Rattle.arithmetic.proofs.OutcomeLaws.{refuse-complete}
 use Rattle.matrix.specs.Matrix.{at}
-use Rattle.matrix.specs.Checks.{check-size, check-buffer, check-finite, check-symmetric, notFinite, unsymmetric}
+use Rattle.matrix.specs.Checks.{check-buffer, check-finite, check-symmetric, notFinite, unsymmetric}
 use Rattle.matrix.proofs.CellLaws.{cell-lt}
-use Rattle.matrix.proofs.CheckLaws.{Accepted, both-accepted, goes-on, matrix-accepted, buffer-accepted, entries-accepted, symmetric-accepted, numbers-accepted, distinct-accepted, distinct-passes}
+use Rattle.matrix.proofs.CheckLaws.{Accepted, both-accepted, good-accepted, then-accepted, size-passes, length-passes, none-passes, matrix-accepted, buffer-accepted, entries-accepted, symmetric-accepted, numbers-accepted, distinct-accepted, distinct-passes}
 use Rattle.arithmetic.specs.DoubleList.{AllDoubles}
 use Rattle.methods.specs.Accepted.{AcceptedOperands, AcceptedTheorem, AcceptedNumbers, AcceptedNumberedTheorem}
 use Rattle.methods.specs.AcceptedMatrix.{AcceptedMatrix}
@@ -31,24 +28,8 @@ use Rattle.methods.proofs.LoadOrders.{order}
 use Rattle.methods.proofs.Loaded.{loaded}
 
 -- ---- what passes each check
-pub good-accepted : (bad : Bool) (refusal : Outcome) → bad ≡ false → Accepted (refuse bad refusal)
-good-accepted bad refusal e = record { is = rw e refl }
-
-pub then-accepted : {o rest : Outcome} → Accepted o → Accepted rest → Accepted (o then rest)
-then-accepted {o} {rest} A B = subst Accepted (goes-on A refl) B
-
 pub method-passes : (method : ℕ) → 1 ≤ method → method ≤ 3 → Accepted (check-method method)
 method-passes method p q = good-accepted (not (leb 1 method && leb method 3)) UnknownMethod (rw (le-leb 1 method p, le-leb method 3 q) refl)
-
-pub size-passes : (n : ℕ) → 1 ≤ n → n ≤ 48 → Accepted (check-size n)
-size-passes n p q = good-accepted (eqb n 0 || ltb 48 n) SizeOutOfRange (rw (ne-eqb n 0 (λ e. omega arith), le-ltb 48 n q) refl)
-
-pub length-passes : (wanted len : ℕ) → len ≡ wanted → not (eqb len wanted) ≡ false
-length-passes wanted len e = ap not (eq-eqb len wanted e)
-
--- no position is bad
-none-passes : (bad : ℕ → Bool) (n : ℕ) → ((k : ℕ) → k < n → bad k ≡ false) → ltb (first bad n) n ≡ false
-none-passes bad n h = le-ltb (first bad n) n (omega (arith, first-none bad n h))
 
 -- position k of n * n is in row k / n and column k % n
 cells : (n : ℕ) (P : ℕ → ℕ → ℕ → Type 0) → 1 ≤ n → ((i j : ℕ) → i < n → j < n → P i j (i * n + j)) → (k : ℕ) → k < n * n → P (k / n) (k % n) k
@@ -56,12 +37,12 @@ cells n P h c k l = subst (P (k / n) (k % n)) (div-add-mod' k n) (c (k / n) (k %
 
 module _ (n : ℕ) (a : List Float) (some : 1 ≤ n) (A : AcceptedMatrix n a) where
   pub finite-passes : Accepted (check-finite n a)
-  finite-passes = good-accepted _ _ (none-passes (notFinite a) (length a) (λ k l. ap not (cells n (λ i j k. finite (getD a k nan) ≡ true) some (A .finite-entries) k (omega (arith, A .entries)))))
+  finite-passes = none-passes (notFinite a) (length a) _ (λ k l. ap not (cells n (λ i j k. finite (getD a k nan) ≡ true) some (A .finite-entries) k (omega (arith, A .entries))))
 
   pub symmetric-passes : Accepted (check-symmetric n a)
-  symmetric-passes = good-accepted _ _ (none-passes (unsymmetric n a) (n * n) (λ k l.
+  symmetric-passes = none-passes (unsymmetric n a) (n * n) _ (λ k l.
       let e : at n a (k / n) (k % n) ≡ at n a (k % n) (k / n) = cells n (λ i j k. at n a i j ≡ at n a j i) some (A .symmetric) k l in
-      ap (λ (b : Bool). ltb (k / n) (k % n) && not b) (eq-eqb _ _ (ap (toBits binary64) e)) ∙ and-false (ltb (k / n) (k % n))))
+      ap (λ (b : Bool). ltb (k / n) (k % n) && not b) (eq-eqb _ _ (ap (toBits binary64) e)) ∙ and-false (ltb (k / n) (k % n)))
 
   pub matrix-doubles : AllDoubles a
   matrix-doubles k l = cells n (λ i j k. T (fits binary64 (getD a k nan))) some (A .doubles) k (omega (arith, A .entries))
@@ -106,9 +87,9 @@ module _ (method n : ℕ) (a : List Float) (numbering : Outcome) (l work e p : �
   pub passes : Accepted numbering → AcceptedOperands method n a l work e p → Accepted (factor-checks method n a numbering l work e p)
   unfolding factor-checks operandChain
   passes N O =
-      let buffer : (wanted len : ℕ) → len ≡ wanted → Accepted (check-buffer wanted len) = λ wanted len e. good-accepted _ _ (length-passes wanted len e) in
+      let buffer : (wanted len : ℕ) → len ≡ wanted → Accepted (check-buffer wanted len) = λ wanted len e. length-passes wanted len BufferLength e in
       let sized = then-accepted (method-passes method (O .method-from) (O .method-to)) (size-passes n (O .rows-from) (O .rows-to)) in
-      let matrix = then-accepted sized (good-accepted _ _ (length-passes (n * n) (length a) (O .matrix .entries))) in
+      let matrix = then-accepted sized (length-passes (n * n) (length a) MatrixLength (O .matrix .entries)) in
       let matrices = then-accepted (then-accepted (then-accepted matrix N) (buffer (n * n) l (O .l-is))) (buffer (n * n) work (O .work-is)) in
       let operands = then-accepted (then-accepted matrices (buffer n e (O .e-is))) (buffer n p (O .p-is)) in
       then-accepted (then-accepted operands (finite-passes n a (O .rows-from) (O .matrix))) (symmetric-passes n a (O .rows-from) (O .matrix))
@@ -120,7 +101,7 @@ accepted method n a l work e p d =
 -- ---- numbers
 pub numbers-pass : (n : ℕ) (numbers : List ℕ) → AcceptedNumbers n numbers → Accepted (number-checks n numbers)
 unfolding number-checks
-numbers-pass n numbers N = then-accepted (good-accepted _ _ (length-passes n (length numbers) (N .len))) (distinct-passes numbers (N .distinct))
+numbers-pass n numbers N = then-accepted (length-passes n (length numbers) NumbersLength (N .len)) (distinct-passes numbers (N .distinct))
 
 numbers-passed : (n : ℕ) (numbers : List ℕ) → Accepted (number-checks n numbers) → AcceptedNumbers n numbers
 unfolding number-checks

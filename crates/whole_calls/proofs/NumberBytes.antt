@@ -1,19 +1,16 @@
 -- Contract numbers are read back from their bytes, and pass 12 and 13 there, also where they are reloaded.
 use mathlib.Core.Path.{_≡_, refl, ap, _∙_}
-use mathlib.Core.Bool.{not}
 use mathlib.Core.List.{List, [], _∷_}
 use Prim.Native.Nat.{ℕ, zero, suc, _+_, _*_, _/_, _<_}
 use native.Mathlib.Omega.{arith}
 use lib.ListN.{length, getD, take, drop, length-append}
-use lib.Dec.{eqb}
 use lib.Seq.{take-at, drop-append-add, ext-getD}
 use Rattle.arithmetic.specs.declared.outcome.Outcome.the-variants.{NumbersLength}
 use Rattle.matrix.specs.Checks.{check-distinct, Distinct}
 use Rattle.matrix.specs.Plain.{AllBelow}
-use Rattle.matrix.proofs.CheckLaws.{Accepted, distinct-passes}
+use Rattle.matrix.proofs.CheckLaws.{Accepted, distinct-passes, then-accepted, length-passes}
 use Rattle.matrix.proofs.TableLaws.{getD-table}
 use Rattle.methods.specs.Reloading.{LoadOrder}
-use Rattle.methods.proofs.AcceptedCalls.{good-accepted, then-accepted, length-passes}
 use Rattle.load_order.specs.Numbered.{reloadNumbers}
 use Rattle.load_order.proofs.Numbered.{length-reloaded}
 use Rattle.encoding.specs.Bytes.{bytes, numbers}
@@ -59,7 +56,7 @@ module _ (n : ℕ) (ks : List ℕ) (e : length ks ≡ n) where
   pub number-bytes-pass : AllBelow 0x1_0000_0000 ks → Distinct ks → Accepted (number-byte-checks n (numberBytes ks))
   number-bytes-pass below D =
       let distinct : Accepted (check-distinct (numbers (numberBytes ks))) = rw (numbers-content ks below) (distinct-passes ks D) in
-      then-accepted (good-accepted (not (eqb (length (numberBytes ks)) (4 * n))) NumbersLength (length-passes (4 * n) (length (numberBytes ks)) number-bytes-length)) distinct
+      then-accepted (length-passes (4 * n) (length (numberBytes ks)) NumbersLength number-bytes-length) distinct
 
   pub reloaded-below : (s : List ℕ) → AllBelow 0x1_0000_0000 ks → LoadOrder n s → AllBelow 0x1_0000_0000 (reloadNumbers n s ks)
   reloaded-below s below L i h =

@@ -9,7 +9,7 @@ use lib.ListN.{length, length-append}
 use Rattle.arithmetic.specs.Outcome.{number, place, complete}
 use Rattle.arithmetic.proofs.OutcomeLaws.{complete-is}
 use Rattle.arithmetic.specs.declared.outcome.Outcome.{Outcome}
-use Rattle.arithmetic.specs.declared.outcome.Outcome.the-variants.{Complete, MalformedRecord, UnknownMethod, SizeOutOfRange, MatrixLength, BufferLength, IndexOutOfRange, NotFinite, Unsymmetric, StoredNotFinite, FieldPastEnd, TagNotDue, NumbersLength, NumberRepeated}
+use Rattle.arithmetic.specs.declared.outcome.Outcome.the-variants.{Complete, MalformedRecord, UnknownMethod, SizeOutOfRange, MatrixLength, BufferLength, IndexOutOfRange, NotFinite, Unsymmetric, StoredNotFinite, FieldPastEnd, TagNotDue, NumbersLength, NumberRepeated, ListLength, ZeroDiagonal}
 use Rattle.methods.specs.Result.{Result}
 use Rattle.methods.specs.declared.decomposition.Mark.{Mark}
 use Rattle.methods.specs.declared.decomposition.Mark.the-variants.{Never, Step}
@@ -85,6 +85,8 @@ outcome-read (FieldPastEnd field) = refl
 outcome-read (TagNotDue field) = refl
 outcome-read NumbersLength = refl
 outcome-read (NumberRepeated position) = refl
+outcome-read ListLength = refl
+outcome-read (ZeroDiagonal row) = refl
 
 mark-read : (m : Mark) → StepFits m → markRead (stepByte m) ≡ m
 mark-read Never h = refl

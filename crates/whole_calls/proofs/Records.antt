@@ -1,21 +1,19 @@
 -- The theorems on load order, for two whole records.
 use mathlib.Core.Path.{_≡_, refl, sym, ap, subst, _∙_}
-use mathlib.Core.Bool.{not}
 use mathlib.Core.List.{List, []}
 use Prim.Native.Nat.{ℕ, _*_, _≤_}
 use lib.ListN.{length}
-use lib.Dec.{eqb}
 use lib.Ieee.{Float}
 use Rattle.arithmetic.specs.Outcome.{_then_}
 use Rattle.arithmetic.specs.declared.outcome.Outcome.the-variants.{MatrixLength, BufferLength}
 use Rattle.matrix.specs.Checks.{check-size, check-buffer, check-finite, check-symmetric, Distinct}
 use Rattle.matrix.specs.Plain.{AllBelow}
-use Rattle.matrix.proofs.CheckLaws.{Accepted}
+use Rattle.matrix.proofs.CheckLaws.{Accepted, then-accepted, size-passes, length-passes}
 use Rattle.methods.specs.AcceptedMatrix.{AcceptedMatrix}
 use Rattle.methods.specs.Calls.{check-method, methodOf}
 use Rattle.methods.specs.Factor.{factor, tolerances}
 use Rattle.methods.specs.Reloading.{reload}
-use Rattle.methods.proofs.AcceptedCalls.{good-accepted, then-accepted, method-passes, size-passes, length-passes, finite-passes, symmetric-passes, matrix-doubles, reload-accepted}
+use Rattle.methods.proofs.AcceptedCalls.{method-passes, finite-passes, symmetric-passes, matrix-doubles, reload-accepted}
 use Rattle.load_order.specs.LoadOrder.{Alike}
 use Rattle.load_order.specs.Numbered.{reloadNumbers, NumberedAlike}
 use Rattle.load_order.proofs.Theorem.{load-order}
@@ -47,10 +45,10 @@ module _ (method n : ℕ) (a : List Float) (p : 1 ≤ method) (q : method ≤ 3)
   entries-length = length-content a ∙ ap (λ (x : ℕ). 8 * x) (A .entries)
 
   sizes-pass : Accepted (check-method method then check-size n then check-entries n (length entries))
-  sizes-pass = then-accepted (then-accepted (method-passes method p q) (size-passes n u w)) (good-accepted (not (eqb (length entries) (8 * (n * n)))) MatrixLength (length-passes (8 * (n * n)) (length entries) entries-length))
+  sizes-pass = then-accepted (then-accepted (method-passes method p q) (size-passes n u w)) (length-passes (8 * (n * n)) (length entries) MatrixLength entries-length)
 
   room-passes : Accepted (check-buffer longestAnswer longestAnswer)
-  room-passes = good-accepted (not (eqb longestAnswer longestAnswer)) BufferLength (length-passes longestAnswer longestAnswer refl)
+  room-passes = length-passes longestAnswer longestAnswer BufferLength refl
 
   finite-entries : Accepted (check-finite n (doubles entries))
   finite-entries = rw same (finite-passes n a u A)

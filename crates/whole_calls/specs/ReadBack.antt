@@ -5,7 +5,7 @@ use Prim.Native.Nat.{ℕ, zero, suc}
 use lib.ListN.{length, take, drop, getD}
 use lib.Dec.{eqb}
 use Rattle.arithmetic.specs.declared.outcome.Outcome.{Outcome}
-use Rattle.arithmetic.specs.declared.outcome.Outcome.the-variants.{Complete, MalformedRecord, UnknownMethod, SizeOutOfRange, MatrixLength, BufferLength, IndexOutOfRange, NotFinite, Unsymmetric, StoredNotFinite, FieldPastEnd, TagNotDue, NumbersLength, NumberRepeated}
+use Rattle.arithmetic.specs.declared.outcome.Outcome.the-variants.{Complete, MalformedRecord, UnknownMethod, SizeOutOfRange, MatrixLength, BufferLength, IndexOutOfRange, NotFinite, Unsymmetric, StoredNotFinite, FieldPastEnd, TagNotDue, NumbersLength, NumberRepeated, ListLength, ZeroDiagonal}
 use Rattle.methods.specs.Result.{Result}
 use Rattle.methods.specs.declared.decomposition.Mark.{Mark}
 use Rattle.methods.specs.declared.decomposition.Mark.the-variants.{Never, Step}
@@ -33,7 +33,7 @@ byteOf tag k fs = getD (contentOf tag fs) k 0
 -- what a refusal number and a place name
 abbrev pub outcomeRead : ℕ → ℕ → ℕ → Outcome
 outcomeRead refusal row column =
-    getD (Complete ∷ MalformedRecord ∷ UnknownMethod ∷ SizeOutOfRange ∷ MatrixLength ∷ BufferLength ∷ IndexOutOfRange row ∷ NotFinite row column ∷ Unsymmetric row column ∷ StoredNotFinite row ∷ FieldPastEnd row ∷ TagNotDue row ∷ NumbersLength ∷ NumberRepeated row ∷ []) refusal Complete
+    getD (Complete ∷ MalformedRecord ∷ UnknownMethod ∷ SizeOutOfRange ∷ MatrixLength ∷ BufferLength ∷ IndexOutOfRange row ∷ NotFinite row column ∷ Unsymmetric row column ∷ StoredNotFinite row ∷ FieldPastEnd row ∷ TagNotDue row ∷ NumbersLength ∷ NumberRepeated row ∷ ListLength ∷ ZeroDiagonal row ∷ []) refusal Complete
 
 abbrev pub markRead : ℕ → Mark
 markRead v = cond (eqb v 0xff) Never (Step v)

@@ -1,9 +1,9 @@
 //! Records that are broken once or twice; some are sound all the same.
 
-use crate::operands::not_finite;
 use oracle::generate::rng::Rng;
 use oracle::generate::{matrix, KINDS};
 use oracle::numbered::{numbers, Numbered};
+use oracle::operands::not_finite;
 use oracle::record::{bytes, field, matrix_record, number_bytes, LONGEST, NUMBERED_DUE};
 
 /// Where field 03 has its content, in a record of sound fields without numbers.

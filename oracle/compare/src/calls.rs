@@ -1,12 +1,12 @@
-//! Every exported call but those of records and factorizations, on operands that it accepts or
+//! Every exported call but those of records, factorizations and solving, on operands that it accepts or
 //! refuses: what it hands back and leaves in its buffers, beside the listed Rust's helpers and
 //! document 01's checks.
 
 use crate::checks::{self, Checked};
-use crate::operands::{any_bits, area, cut, doubles, filling, index, length, list, size};
 use crate::port::{self, Refusal};
 use oracle::generate::rng::Rng;
 use oracle::helpers;
+use oracle::operands::{any_bits, area, cut, doubles, filling, index, length, list, size};
 use oracle::record::{bytes, Reply};
 
 #[derive(Clone)]

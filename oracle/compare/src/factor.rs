@@ -2,11 +2,11 @@
 
 use crate::calls::{called, refusal, Called, Outcome};
 use crate::checks::{self, Checked};
-use crate::operands::{doubles, filling, not_finite, other_length, words};
 use crate::port::{self, Buffers, Factored};
 use oracle::generate::rng::Rng;
 use oracle::generate::Case;
 use oracle::numbered::Numbered;
+use oracle::operands::{change_entry, doubles, filling, not_finite, resize, words};
 use oracle::record::{bytes, number_bytes, Reply};
 
 const NONE: usize = 255;
@@ -196,17 +196,6 @@ fn change_numbers(numbers: &mut Vec<u8>, rng: &mut Rng) {
     if count > 0 {
         let (from, to) = (4 * rng.below(count), 4 * rng.below(count));
         numbers.copy_within(from..from + 4, to);
-    }
-}
-
-fn resize(list: &mut Vec<u8>, byte: u8, rng: &mut Rng) {
-    list.resize(other_length(list.len(), rng), byte);
-}
-
-fn change_entry(matrix: &mut [u8], change: impl Fn(f64, &mut Rng) -> f64, rng: &mut Rng) {
-    let at = rng.below((matrix.len() / 8).max(1));
-    if let Some((entry, _)) = matrix[8 * at..].split_first_chunk_mut() {
-        *entry = change(f64::from_le_bytes(*entry), rng).to_le_bytes();
     }
 }
 

@@ -1,5 +1,5 @@
-//! The port's answers beside those of the listed Rust, where there are contract numbers of the second
-//! implementation, and of documents 01's and 02's checks, at scale.
+//! The port's answers beside those of the listed Rust, where there are contract numbers and in solving of the
+//! second implementation, and of documents 01's and 02's checks, at scale.
 
 mod answer;
 mod broken;
@@ -11,11 +11,12 @@ mod last_block;
 mod load_order;
 mod numbered;
 mod numbered_report;
-mod operands;
 mod port;
 mod records;
 mod report;
 mod run;
 mod small;
+mod solve;
+mod solve_report;
 
 pub use run::compare;

@@ -45,28 +45,38 @@ fn reloaded(n: usize, matrix: &[f64], s: &[usize]) -> Vec<f64> {
     (0..n).flat_map(row).collect()
 }
 
-/// How much must be alike, and the first part that isn't.
-pub fn check(case: &Case, s: &[usize], first: &Answer) -> (Alike, Option<String>) {
+/// Two loadings: how much of their answers must be alike, the second answer, and the first part that isn't.
+pub struct Pair {
+    pub alike: Alike,
+    pub second: Option<Answer>,
+    pub unlike: Option<String>,
+}
+
+pub fn check(case: &Case, s: &[usize], first: &Answer) -> Pair {
     let matrix = reloaded(case.n, &case.matrix, s);
     let record = matrix_record(case.method, case.n as u8, &matrix);
-    let wanted = alike(first);
-    (wanted, unlike_answer(wanted, s, first, &record))
+    pair(alike(first), s, first, &record)
 }
 
 /// The same with numbers, which move with their contracts.
-pub fn check_numbered(made: &Numbered, s: &[usize], first: &Answer) -> (Alike, Option<String>) {
-    let wanted = alike_by_number(made.method, first);
+pub fn check_numbered(made: &Numbered, s: &[usize], first: &Answer) -> Pair {
     let record = made.reloaded(s).record();
-    (wanted, unlike_answer(wanted, s, first, &record))
+    pair(alike_by_number(made.method, first), s, first, &record)
 }
 
-/// Of the answer to the record of the reloading.
-fn unlike_answer(wanted: Alike, s: &[usize], first: &Answer, record: &[u8]) -> Option<String> {
-    let unlike = match read(&records::answer(record)) {
+/// With the answer to the record of the reloading.
+fn pair(alike: Alike, s: &[usize], first: &Answer, record: &[u8]) -> Pair {
+    let second = read(&records::answer(record));
+    let unlike = match &second {
         None => Some("no answer record"),
-        Some(second) => unlike(wanted, s, first, &second),
+        Some(second) => unlike(alike, s, first, second),
     };
-    unlike.map(|part| format!("reloaded by {s:?}: {part}"))
+    let unlike = unlike.map(|part| format!("reloaded by {s:?}: {part}"));
+    Pair {
+        alike,
+        second,
+        unlike,
+    }
 }
 
 fn unlike(wanted: Alike, s: &[usize], first: &Answer, second: &Answer) -> Option<&'static str> {

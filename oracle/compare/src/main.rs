@@ -1,6 +1,6 @@
 //! `compare COUNT SEED [FIRST]` compares COUNT factorizations of the port with the oracle's, from
 //! index FIRST (default 0) on, and with each a broken record, a reloading and every exported call; then
-//! every small broken record.
+//! the lists of numbered matrices, of systems to solve and of small broken records.
 //! It prints a line for each difference, and stops after 20. Exit status 1 if there is one.
 
 use std::io::Write;

@@ -2,13 +2,13 @@
 
 use crate::answer::{self, Answer};
 use crate::factor::{self, Operands};
-use crate::operands::not_finite;
 use crate::report::Report;
 use crate::run::{self, noted};
-use crate::{load_order, records};
+use crate::{load_order, records, solve};
 use oracle::generate::rng::Rng;
 use oracle::generate::Case;
 use oracle::numbered::{Numbered, TYING};
+use oracle::operands::not_finite;
 use oracle::record::replied;
 use oracle::second::judged;
 use oracle::NOT_FINITE;
@@ -37,7 +37,7 @@ pub fn compare(made: &Numbered, rng: &mut Rng, report: &mut Report) -> Vec<Strin
         report,
     ));
     let s = rng.permutation(made.n);
-    found.extend(loadings(made, &s, report));
+    found.extend(loadings(made, &s, rng, report));
     found.extend(refused_loadings(&spoiled(made, rng), &s, rng, report));
     found
 }
@@ -46,11 +46,12 @@ fn port_answer(record: &[u8]) -> Option<Answer> {
     answer::read(&records::answer(record))
 }
 
-fn loadings(made: &Numbered, s: &[usize], report: &mut Report) -> Option<String> {
+fn loadings(made: &Numbered, s: &[usize], rng: &mut Rng, report: &mut Report) -> Option<String> {
     let first = port_answer(&made.record())?;
-    let (alike, unlike) = load_order::check_numbered(made, s, &first);
-    report.numbered.pair(alike, &first);
-    unlike
+    let pair = load_order::check_numbered(made, s, &first);
+    report.numbered.pair(pair.alike, &first);
+    let unsolved = solve::loadings(&pair, s, &first, rng, report);
+    pair.unlike.or(unsolved)
 }
 
 /// With a number twice, an entry that isn't finite, or one unlike its mirror; one or two of these.

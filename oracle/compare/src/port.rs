@@ -133,6 +133,38 @@ pub fn factor_numbered_doubles(
     })
 }
 
+pub fn solve_bytes(l: &[u8], n: usize, p: &[u8], b: &[u8], y: &mut [u8]) -> Refusal {
+    refusal(unsafe {
+        ffi::millracer_solve_bytes(
+            l.as_ptr(),
+            l.len(),
+            n,
+            p.as_ptr(),
+            p.len(),
+            b.as_ptr(),
+            b.len(),
+            y.as_mut_ptr(),
+            y.len(),
+        )
+    })
+}
+
+pub fn solve_doubles(l: &[f64], n: usize, p: &[usize], b: &[f64], y: &mut [f64]) -> Refusal {
+    refusal(unsafe {
+        ffi::millracer_solve_doubles(
+            l.as_ptr(),
+            l.len(),
+            n,
+            p.as_ptr(),
+            p.len(),
+            b.as_ptr(),
+            b.len(),
+            y.as_mut_ptr(),
+            y.len(),
+        )
+    })
+}
+
 pub fn sqrt(x: f64) -> (Refusal, f64) {
     let answer = unsafe { ffi::millracer_sqrt(x) };
     (refusal(answer.refusal), answer.value)

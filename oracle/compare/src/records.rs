@@ -2,9 +2,9 @@
 
 use crate::answer::difference;
 use crate::calls::{called, refusal, Called, Outcome};
-use crate::operands::filling;
 use crate::port::{self, Refusal, LONGEST_ANSWER};
 use oracle::generate::rng::Rng;
+use oracle::operands::filling;
 use oracle::record::Reply;
 
 /// The port's answer record.

@@ -4,6 +4,7 @@ use crate::calls::Called;
 use crate::load_order::Alike;
 use crate::numbered_report::NumberedReport;
 use crate::small;
+use crate::solve_report::SolveReport;
 use oracle::generate::Case;
 use oracle::record::{Reply, PAST_END, TAG_NOT_DUE};
 use oracle::table::NAMES;
@@ -43,6 +44,7 @@ pub struct Report {
     calls: BTreeMap<&'static str, BTreeMap<usize, u64>>,
     pairs: BTreeMap<Alike, u64>,
     pub numbered: NumberedReport,
+    pub solve: SolveReport,
     /// Where the first was, and how many.
     differences: Option<(String, usize)>,
 }
@@ -60,6 +62,7 @@ impl Report {
             calls: BTreeMap::new(),
             pairs: BTreeMap::new(),
             numbered: NumberedReport::new(),
+            solve: SolveReport::default(),
             differences: None,
         }
     }
@@ -110,7 +113,7 @@ impl Report {
     /// What wasn't compared and should have been.
     fn missing(&self) -> Option<String> {
         match self.small_comparisons == SMALL_DUE {
-            true => self.numbered.missing(),
+            true => self.numbered.missing().or_else(|| self.solve.missing()),
             false => Some("every small broken record".into()),
         }
     }
@@ -202,7 +205,7 @@ impl fmt::Display for Report {
     fn fmt(&self, f: &mut fmt::Formatter) -> fmt::Result {
         self.runs(f)?;
         self.pairs(f)?;
-        write!(f, "{}", self.numbered)?;
+        write!(f, "{}{}", self.numbered, self.solve)?;
         writeln!(
             f,
             "last blocks on which SE90 and SE99 differ: {}",
@@ -241,5 +244,7 @@ mod tests {
         assert!(words.contains("\nnot compared: every small broken record\n"));
         let numbered = report.numbered.missing().unwrap();
         assert_eq!(numbered, "0 numbered matrices of 1512");
+        let solve = report.solve.missing().unwrap();
+        assert_eq!(solve, "0 systems of 76551");
     }
 }

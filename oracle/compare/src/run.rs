@@ -1,14 +1,15 @@
-//! A comparison, index by index, then of every small broken record.
+//! A comparison, index by index, then of the fixed lists.
 
 use crate::calls::Called;
 use crate::factor::{self, Operands};
 use crate::report::Report;
-use crate::{answer, broken, calls, draw, last_block, load_order, numbered, records, small};
+use crate::{answer, broken, calls, draw, last_block, load_order, numbered, records, small, solve};
 use oracle::generate::rng::Rng;
 use oracle::generate::Case;
 use oracle::numbered::list;
 use oracle::record::{matrix_record, replied, reply, Reply};
 use oracle::second;
+use oracle::systems;
 use oracle::table::NAMES;
 use oracle::{SE90, SE99};
 use std::ops::Range;
@@ -23,6 +24,7 @@ pub fn compare(seed: u64, indexes: Range<u64>) -> Report {
         }
     }
     numbered_list(&mut report);
+    systems_list(&mut report);
     small_records(&mut report);
     report
 }
@@ -38,6 +40,25 @@ fn numbered_list(report: &mut Report) {
         let at = format!("numbered matrix {number}");
         let name = NAMES[usize::from(made.method) - 1];
         let said = |words: String| format!("{at}, {name} n {} {sort:?}: {words}", made.n);
+        told(&at, found.into_iter().map(said).collect(), report);
+    }
+}
+
+/// Systems to solve of every n, with every kind of fault.
+fn systems_list(report: &mut Report) {
+    let sized = (1..=48).flat_map(systems::of_size);
+    for (number, system) in systems::refused_together()
+        .into_iter()
+        .chain(sized)
+        .enumerate()
+    {
+        if report.has_enough() {
+            return;
+        }
+        let found = solve::compare(&system, report);
+        report.solve.listed();
+        let at = format!("system {number}");
+        let said = |words: String| format!("{at}, {words}");
         told(&at, found.into_iter().map(said).collect(), report);
     }
 }
@@ -73,6 +94,7 @@ fn compare_one(seed: u64, index: u64, report: &mut Report) -> Vec<String> {
         helpers(&mut rng, report),
         with_numbers(&case, &mut rng, report),
         broken_record(broken::numbered(&mut rng), &mut rng, report),
+        solve::draw(case.n, &mut rng, report),
     ];
     let name = NAMES[usize::from(case.method) - 1];
     let at = format!(
@@ -100,9 +122,12 @@ fn factorization(case: &Case, rng: &mut Rng, report: &mut Report) -> Vec<String>
         }
     }
     if let Some(first) = answer::read(&records::answer(&record)) {
-        let (alike, unlike) = load_order::check(case, &rng.permutation(case.n), &first);
-        report.pair(alike);
-        found.extend(unlike);
+        let s = rng.permutation(case.n);
+        let pair = load_order::check(case, &s, &first);
+        report.pair(pair.alike);
+        found.extend(solve::loadings(&pair, &s, &first, rng, report));
+        found.extend(pair.unlike);
+        found.extend(solve::with_factor(&first, rng, report));
     }
     found
 }

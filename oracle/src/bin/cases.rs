@@ -9,10 +9,19 @@
 //!
 //! `cases COUNT MAXN SEED numbered` prints matrices with ties and contract numbers, count of them, and the
 //! second implementation's answers.
+//!
+//! `cases COUNT MAXN SEED solve` prints systems to solve and the second implementation's answers:
+//!
+//!     n refusal row column lengths L p b y answer
+//!
+//! lengths are four numbers, those of L, p, b and y as it is lent; the answer is y as it is left.
 
 use oracle::generate::cases;
 use oracle::generate::rng::Rng;
 use oracle::numbered::{Numbered, TYING};
+use oracle::record::{bytes, doubles};
+use oracle::second::solve::{solve, System};
+use oracle::systems::{changed, drawn};
 use oracle::table::{report, Run};
 use oracle::{factor, second, Answer, COMPLETE, GMW81};
 use std::fmt::Display;
@@ -22,23 +31,21 @@ use std::process::ExitCode;
 const NONE: usize = 255;
 
 fn main() -> ExitCode {
-    let mut words: Vec<String> = std::env::args().skip(1).collect();
-    let numbered = words.get(3).is_some_and(|word| word == "numbered");
-    if numbered {
-        words.pop();
-    }
+    let words: Vec<String> = std::env::args().skip(1).collect();
     let given: Vec<Option<usize>> = words.iter().map(|word| word.parse().ok()).collect();
-    match given[..] {
-        [Some(count), Some(max_n @ 1..=48), Some(seed)] => {
-            let all = match numbered {
-                false => plain(count, max_n, seed as u64),
-                true => with_numbers(count, max_n, seed as u64),
+    let kind = words.get(3).map(|word| &word[..]);
+    match (&given[..given.len().min(3)], kind) {
+        (&[Some(count), Some(max_n @ 1..=48), Some(seed)], None | Some("numbered" | "solve")) => {
+            let printed = match kind {
+                None => print(&plain(count, max_n, seed as u64)),
+                Some("numbered") => print(&with_numbers(count, max_n, seed as u64)),
+                _ => print_systems(count, max_n, seed as u64),
             };
-            print(&all).expect("standard output is open");
+            printed.expect("standard output is open");
             ExitCode::SUCCESS
         }
         _ => {
-            eprintln!("usage: cases COUNT MAXN SEED [numbered], with MAXN from 1 to 48");
+            eprintln!("usage: cases COUNT MAXN SEED [numbered | solve], with MAXN from 1 to 48");
             ExitCode::from(2)
         }
     }
@@ -85,6 +92,46 @@ fn print(all: &[Answered]) -> io::Result<()> {
     Ok(())
 }
 
+/// Every second one has an operand changed, or two.
+fn print_systems(count: usize, max_n: usize, seed: u64) -> io::Result<()> {
+    let mut rng = Rng::new(seed, 0);
+    for index in 0..count {
+        let drawn = drawn(1 + rng.below(max_n), &mut rng);
+        let system = match index % 2 {
+            0 => drawn,
+            _ => changed(drawn, &mut rng),
+        };
+        writeln!(io::stdout(), "{}", system_line(&whole(system)))?;
+    }
+    Ok(())
+}
+
+/// Of a call on doubles: what is cut is left out, and y is lent with whole numbers.
+fn whole(system: System) -> System {
+    let lent: Vec<f64> = (1..=system.y.len() / 8).map(|k| k as f64).collect();
+    System {
+        l: bytes(&doubles(&system.l)),
+        b: bytes(&doubles(&system.b)),
+        y: bytes(&lent),
+        ..system
+    }
+}
+
+fn system_line(system: &System) -> String {
+    let (n, p) = (system.n, &system.p);
+    let [l, b, y] = [&system.l, &system.b, &system.y].map(|list| doubles(list));
+    let solved = solve(system);
+    let [number, row, column] = solved.refusal;
+    spaced([
+        joined([n, number, row, column, l.len(), p.len(), b.len(), y.len()]),
+        joined(bits(&l)),
+        joined(p),
+        joined(bits(&b)),
+        joined(bits(&y)),
+        joined(bits(&doubles(&solved.y))),
+    ])
+}
+
 fn line(made: &Numbered, answer: &Answer) -> String {
     let mark = |step: Option<usize>| step.unwrap_or(NONE);
     let head = [
@@ -96,14 +143,18 @@ fn line(made: &Numbered, answer: &Answer) -> String {
         answer.step,
         made.numbers.len(),
     ];
-    let parts = [
+    spaced([
         joined(head),
         joined(&made.numbers),
         joined(bits(&made.matrix)),
         joined(&answer.p),
         joined(bits(&answer.e)),
         joined(bits(&answer.l)),
-    ];
+    ])
+}
+
+/// The parts that aren't empty.
+fn spaced(parts: impl IntoIterator<Item = String>) -> String {
     let parts: Vec<String> = parts.into_iter().filter(|part| !part.is_empty()).collect();
     parts.join(" ")
 }

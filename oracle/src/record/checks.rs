@@ -182,7 +182,8 @@ fn first_field(bytes: &[u8]) -> Option<(u8, &[u8], &[u8])> {
     Some((header[0], content, after))
 }
 
-fn doubles(content: &[u8]) -> Vec<f64> {
+/// The whole doubles, eight bytes each, the low byte first.
+pub fn doubles(content: &[u8]) -> Vec<f64> {
     content
         .chunks_exact(8)
         .map(|chunk| f64::from_le_bytes(chunk.try_into().expect("chunks have 8 bytes")))

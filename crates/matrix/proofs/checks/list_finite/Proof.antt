@@ -1,25 +1,15 @@
 -- list_finite tests place after place.
-use mathlib.Core.Path.{_≡_, refl, sym, _∙_}
-use mathlib.Core.Bool.{Bool, true, false, not, _&&_}
+use mathlib.Core.Path.{_∙_}
 use mathlib.Core.Logic.{inl, inr}
 use Prim.Native.Nat.{_-_}
 use borrow.Author.Needs.{needs}
-use borrow.Author.Tests.{not-true, not-false}
 use lib.ListN.{getD}
 use lib.Ieee.{nan}
 use lib.Ieee.Scale.{finite}
-use Rattle.arithmetic.proofs.AllLaws.{andTest}
+use Rattle.arithmetic.proofs.AllLaws.{andTest, and-fails, and-passes}
 use Rattle.arithmetic.proofs.Counting.{Counting, counting-turn, loops}
 use Rattle.matrix.proofs.checks.list_finite.Statement.{statement}
 use Rattle.matrix.proofs.checks.list_finite.Tie as tie
-
-fails : (ok b t : Bool) → b ≡ t → not b ≡ true → false ≡ (ok && t)
-fails true b t e h = sym (not-true b h) ∙ e
-fails false b t e h = refl
-
-passes : (ok b t : Bool) → b ≡ t → not b ≡ false → ok ≡ (ok && t)
-passes true b t e h = sym (not-false b h) ∙ e
-passes false b t e h = refl
 
 abbrev Inv-loop : tie.InvT-loop
 Inv-loop l a n ok₀ i₀ ok i = Counting a n i (andTest (λ k. finite (getD l k nan))) ok₀ ok
@@ -31,7 +21,7 @@ loop-again : tie.Need-loop-again Inv-loop μ-loop
 loop-again c =
     let f = c .before in
     let s = f .before .before .before .loop in
-    counting-turn (s .inv) (search needs) (elim (c .if1 .came) [ inl t ↦ t .1 ∙ fails (s .ok) _ _ (f .finite .ensures) (t .0 .taken) | inr t ↦ t .1 ∙ passes (s .ok) _ _ (f .finite .ensures) (t .0 .left) ])
+    counting-turn (s .inv) (search needs) (elim (c .if1 .came) [ inl t ↦ t .1 ∙ and-fails (s .ok) _ _ (f .finite .ensures) (t .0 .taken) | inr t ↦ t .1 ∙ and-passes (s .ok) _ _ (f .finite .ensures) (t .0 .left) ])
 
 pub list-finite-spec : {M : Type 1} → statement M
 list-finite-spec = tie.close (tie.spec Inv-loop μ-loop (λ c. search loops) (search needs) (search needs) (search needs) (search needs) (search needs) loop-again (λ c. search loops))

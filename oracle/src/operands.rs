@@ -1,7 +1,7 @@
 //! Operands of the exported calls: mostly accepted, now and then refused.
 
-use oracle::generate::rng::Rng;
-use oracle::record::bytes;
+use crate::generate::rng::Rng;
+use crate::record::bytes;
 
 pub fn size(rng: &mut Rng) -> usize {
     match rng.below(32) {
@@ -57,6 +57,23 @@ pub fn cut(len: usize, doubles: impl FnOnce(usize) -> Vec<f64>) -> Vec<u8> {
     list
 }
 
+/// To another length.
+pub fn resize(list: &mut Vec<u8>, byte: u8, rng: &mut Rng) {
+    list.resize(other_length(list.len(), rng), byte);
+}
+
+/// A double of a list, if it has one.
+pub fn change_entry(list: &mut [u8], change: impl Fn(f64, &mut Rng) -> f64, rng: &mut Rng) {
+    let at = rng.below((list.len() / 8).max(1));
+    if let Some((entry, _)) = list[8 * at..].split_first_chunk_mut() {
+        *entry = change(f64::from_le_bytes(*entry), rng).to_le_bytes();
+    }
+}
+
+pub fn put_double(list: &mut [u8], at: usize, value: f64) {
+    list[8 * at..8 * at + 8].copy_from_slice(&value.to_le_bytes());
+}
+
 /// The whole doubles.
 pub fn doubles(bytes: &[u8]) -> Vec<f64> {
     let double = |chunk: &[u8]| f64::from_le_bytes(chunk.try_into().expect("chunks have 8 bytes"));
@@ -71,14 +88,19 @@ pub fn words(bytes: &[u8]) -> Vec<u32> {
 
 /// Of one sort or of all, and now and then with an infinity or NaN.
 pub fn list(len: usize, rng: &mut Rng) -> Vec<f64> {
-    let sort = rng.below(SORTS + 2);
-    let mut list: Vec<f64> = (0..len).map(|_| finite(sort, rng)).collect();
+    let mut list = finite_list(len, rng);
     if rng.below(4) == 0 && len > 0 {
         for _ in 0..1 + rng.below(2) {
             list[rng.below(len)] = not_finite(rng);
         }
     }
     list
+}
+
+/// Of one sort or of all.
+pub fn finite_list(len: usize, rng: &mut Rng) -> Vec<f64> {
+    let sort = rng.below(SORTS + 2);
+    (0..len).map(|_| finite(sort, rng)).collect()
 }
 
 /// Of any bits, also those of signalling NaNs.

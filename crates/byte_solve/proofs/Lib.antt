@@ -1,0 +1,2 @@
+pub mod LowerRead
+pub mod SolveBytes

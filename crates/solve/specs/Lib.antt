@@ -1,0 +1,5 @@
+pub mod Checks
+pub mod Substitution
+pub mod LowerPart
+pub mod Accepted
+pub mod Example
