@@ -87,11 +87,15 @@ check-record len c = check-longest len then check-walk (c .stage) then check-exa
 abbrev pub request-number-checks : Request → List ℕ → Outcome
 request-number-checks r contracts = cond (r .numbered) (number-byte-checks (r .size) contracts) Complete
 
+-- 2, 3, 4, on the length of the entries in bytes
+abbrev pub request-size-checks : Request → ℕ → Outcome
+request-size-checks r entries = check-method (r .method) then check-size (r .size) then check-entries (r .size) entries
+
 -- ---- 2, 3, 4, 12, 13, 5 and 7, of a request, the length of the buffer lent for its answer, and the bytes of its contract numbers and entries
 unfoldable pub request-checks : Request → ℕ → List ℕ → List ℕ → Outcome
 unfolding numbers doubles
 request-checks r room contracts entries =
-    check-method (r .method) then check-size (r .size) then check-entries (r .size) (length entries) then request-number-checks r contracts then check-buffer longestAnswer room then check-finite (r .size) (doubles entries)
+    request-size-checks r (length entries) then request-number-checks r contracts then check-buffer longestAnswer room then check-finite (r .size) (doubles entries)
 
 -- ---- 1, 10, 11, 2, 3, 4, 12, 13, 5, 7: what is checked on bytes, with a buffer of `room` bytes for the answer; then 8
 unfoldable pub byte-checks : List ℕ → ℕ → Outcome

@@ -1,6 +1,6 @@
 // Reading a matrix record: its request, and the checks made on bytes.
 ghost use mathlib.Core.Path.{_≡_};
-ghost use Rattle.record.specs.MatrixRecord.{requestOf, check-longest, check-walk, check-exact, check-record, request-number-checks, request-checks};
+ghost use Rattle.record.specs.MatrixRecord.{requestOf, check-longest, check-walk, check-exact, check-record, request-size-checks, request-number-checks, request-checks};
 use crate::cursor::Cursor;
 use crate::cursor::Part;
 use crate::cursor::Stage;
@@ -100,6 +100,15 @@ pub fn check_record(len: usize, c: Cursor) -> Outcome
 
 // ---- 2, 3, 4, 12, 13, 5 and 7
 
+// 2, 3, 4, on the length of the entries in bytes.
+fn request_size_checks(r: Request, entries: usize) -> Outcome
+    ensures { λ o. ⌜ o ≡ request-size-checks r entries ⌝ }
+{
+    check_method(r.method)
+        .then(check_size(r.size))
+        .then(check_entries(r.size, entries))
+}
+
 // 12 and 13 on the bytes of field 04, where there is one.
 fn request_number_checks(r: Request, contracts: &[u8]) -> Outcome
     ensures { λ o. ⌜ o ≡ request-number-checks r (now (contracts .entry)) ⌝ }
@@ -114,11 +123,8 @@ fn request_number_checks(r: Request, contracts: &[u8]) -> Outcome
 pub fn request_checks(r: Request, room: usize, contracts: &[u8], entries: &[u8]) -> Outcome
     ensures { λ o. ⌜ o ≡ request-checks r room (now (contracts .entry)) (now (entries .entry)) ⌝ }
 {
-    let n = r.size;
-    check_method(r.method)
-        .then(check_size(n))
-        .then(check_entries(n, entries.len()))
+    request_size_checks(r, entries.len())
         .then(request_number_checks(r, contracts))
         .then(check_buffer(LONGEST_ANSWER, room))
-        .then(check_finite(n, entries))
+        .then(check_finite(r.size, entries))
 }
