@@ -69,6 +69,11 @@ static void fixed(void) {
                            0x8000000000000001u};  // -2^-1074
   for (size_t i = 0; i < sizeof ends / sizeof *ends; i++) compare(of_bits(ends[i]));
   for (int e = -1074; e <= 1023; e++) compare_around(ldexp(1.0, e));
+  // the two significands whose roots lie nearest above halfway between two doubles (the cut-off remainder is 7), at every scale
+  for (int e = -1075; e <= 971; e++) {
+    compare_around(ldexp(6114741795106786.0, e));
+    compare_around(ldexp(8233674359446949.0, e));
+  }
 }
 
 int main(int argc, char **argv) {

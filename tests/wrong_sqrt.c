@@ -5,6 +5,7 @@
 #include "../bindings/millracer.h"
 
 static double wrong(double x, double r) {
+  int exponent;
   switch (WRONG) {
     case 1:  // always rounded down
       return fma(r, r, -x) > 0 ? nextafter(r, 0) : r;
@@ -12,6 +13,8 @@ static double wrong(double x, double r) {
       return x > 0 && x < DBL_MIN ? nextafter(r, 1) : r;
     case 3:  // +0.0 for -0.0
       return x == 0 ? 0 : r;
+    case 5:  // a remainder of 7 taken for none
+      return frexp(x, &exponent) == 6114741795106786.0 / 0x1p53 && exponent % 2 == 0 ? nextafter(r, 0) : r;
     default:
       return r;
   }

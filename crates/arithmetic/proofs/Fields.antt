@@ -1,9 +1,10 @@
--- The first stage: what the fields of a positive double's bit pattern say.
+-- The second stage begins: what the fields of a positive double's bit pattern say.
 use mathlib.Core.Path.{_≡_, refl, sym, ap, _∙_, subst}
 use mathlib.Core.Bool.{Bool, true, false, not, cond}
+use mathlib.Core.Logic.{inl, inr}
 use Prim.Native.Nat.{ℕ, zero, suc, _+_, _-_, _*_, _/_, _%_, _^_, _<_}
 use native.Mathlib.Omega.{arith}
-use native.Mathlib.Nat.{mul-pos}
+use native.Mathlib.Nat.{mul-pos, eq-zero-or-pos}
 use lib.Dec.{T, leb, eqb, lit<, ltb→lt, nleb→lt}
 use lib.Ieee.{Float, nan, inf, fin, binary64, odd, down, ofBits, toBits, ofFields, isNan, fits}
 use lib.Ieee.Exact.{HasValue, odd-sign}
@@ -64,7 +65,7 @@ read s zero t b es ex et p =
     let v = low-field s t p in
     let l : b < 2 ^ 63 = below b (es ∙ v .sign) in
     let vs : 0 < t * 2 ^ 0 = v .some in (
-      (λ e. record { bounded = record { some = omega arith; digits = omega arith; most = omega arith }; is = ap (λ (n : ℕ). n * 2 ^ 0) et ∙ sym (v .is) }),
+      (λ e. record { some = omega arith; digits = omega arith; most = omega arith; is = ap (λ (n : ℕ). n * 2 ^ 0) et ∙ sym (v .is) }),
       (λ e. absurd (e (omega arith))),
     )
 read s (suc x) t b es ex et p =
@@ -75,7 +76,7 @@ read s (suc x) t b es ex et p =
     let k : b / 2 ^ 52 - 1 ≡ x = omega arith in
     let g : b % 2 ^ 52 + 2 ^ 52 ≡ 2 ^ 52 + t = omega arith in (
       (λ e. absurd (omega arith)),
-      (λ e. record { bounded = record { some = omega arith; digits = omega arith; most = omega arith }; is = rw (k, g) (sym (h .val .is)) }),
+      (λ e. record { some = omega arith; digits = omega arith; most = omega arith; is = rw (k, g) (sym (h .val .is)) }),
     )
 
 reads : (b : ℕ) → T (positive (ofBits binary64 b)) → Reads (ofBits binary64 b) b
@@ -92,6 +93,22 @@ module _ (x : Float) (f : T (fits binary64 x)) (p : T (positive x)) where
 
   pub normal : (toBits binary64 x / 2 ^ 52 ≡ 0 → ⊥) → Significand (magnitude x) (toBits binary64 x % 2 ^ 52 + 2 ^ 52) (toBits binary64 x / 2 ^ 52 - 1)
   normal e = of .1 e
+
+-- every positive double is a number of 53 digits times a power of two
+pub record Held (n : ℕ) : Type 0 where
+  pub significand : ℕ
+  pub exponent : ℕ
+  pub value : Significand n significand exponent
+
+pub held : (x : Float) → T (fits binary64 x) → T (positive x) → Held (magnitude x)
+held x f p = elim (eq-zero-or-pos (toBits binary64 x / 2 ^ 52)) [
+  | inl z ↦ record { significand = toBits binary64 x % 2 ^ 52; exponent = 0; value = subnormal x f p z }
+  | inr g ↦ record {
+    significand = toBits binary64 x % 2 ^ 52 + 2 ^ 52;
+    exponent = toBits binary64 x / 2 ^ 52 - 1;
+    value = normal x f p (λ (z : toBits binary64 x / 2 ^ 52 ≡ 0). omega arith);
+  }
+]
 
 pub no-nan : (x : Float) → T (positive x) → T (not (isNan x))
 unfolding isNan

@@ -4,10 +4,9 @@ use mathlib.Core.Bool.{Bool, true, false, cond, false≢true}
 use mathlib.Core.Logic.{inl, inr, _⊎_}
 use Prim.Native.Nat.{ℕ, zero, suc, _+_, _-_, _*_, _/_, _%_, _^_, _<_}
 use native.Mathlib.Omega.{arith}
-use native.Mathlib.Nat.{eq-zero-or-pos, eq-or-lt-of-le, mul-assoc, mul-left-comm, mul-pos, zero-mul, zero-div, zero-lt-suc}
+use native.Mathlib.Nat.{eq-or-lt-of-le, mul-assoc, mul-left-comm, mul-pos, zero-mul, zero-div, zero-lt-suc}
 use lib.IntN.{ℤ}
 use lib.Dec.{T, ltb, lt→ltb}
-use lib.Count.{leadingZeros}
 use lib.Pow.{pow-pos}
 use lib.Ieee.{Float, nan, inf, fin, binary64, fits, units, toBits, ofBits, lt, up, down, size, hid, top, prec}
 use lib.Ieee.Nearest.{closest}
@@ -19,40 +18,24 @@ use borrow.Author.Tests.{le-ltb}
 use Rattle.arithmetic.specs.Double.{plus-zero}
 use Rattle.arithmetic.specs.Sign.{signOf}
 use Rattle.arithmetic.specs.Sqrt.{magnitudeOf, magnitude, nearestTo, rootOf, sqrt, isqrt}
-use Rattle.arithmetic.specs.SqrtStages.{Significand, Remainder, WholeRoot, front}
+use Rattle.arithmetic.specs.InfinitelyPrecise.{HandedOn}
 use Rattle.arithmetic.specs.Nearest.{Nearer, NotNegative, NearestRoot}
 use Rattle.arithmetic.proofs.Operand.{Zero, zero-of, negative-value, fails}
-use Rattle.arithmetic.proofs.WholeRoot.{Whole, isqrt-whole, sq-step}
-use Rattle.arithmetic.proofs.Written.{nearest-is, even-digit, cut-digit}
+use Rattle.arithmetic.proofs.WholeRoot.{square-lt}
+use Rattle.arithmetic.proofs.Rounding.{nearest-is}
+use Rattle.arithmetic.proofs.Written.{even-digit, cut-digit}
 use Rattle.arithmetic.proofs.Packing.{units-value, magnitude-is}
-use Rattle.arithmetic.proofs.Normalized.{shifted, rooted}
-use Rattle.arithmetic.proofs.Fields.{subnormal, normal}
-use Rattle.arithmetic.proofs.Stages.{joined, negative-root, zero-root}
-use Rattle.arithmetic.proofs.Distance.{nearer, not-tie, which, square-lt}
-
--- ---- a positive double is a number of 53 digits times a power of two
-record Held (n : ℕ) : Type 0 where
-  significand : ℕ
-  exponent : ℕ
-  value : Significand n significand exponent
-
-held : (x : Float) → T (fits binary64 x) → T (positive x) → Held (magnitude x)
-held x f p = elim (eq-zero-or-pos (toBits binary64 x / 2 ^ 52)) [
-  | inl z ↦ record { significand = toBits binary64 x % 2 ^ 52; exponent = 0; value = subnormal x f p z }
-  | inr g ↦ record {
-    significand = toBits binary64 x % 2 ^ 52 + 2 ^ 52;
-    exponent = toBits binary64 x / 2 ^ 52 - 1;
-    value = normal x f p (λ (z : toBits binary64 x / 2 ^ 52 ≡ 0). omega arith);
-  }
-]
+use Rattle.arithmetic.proofs.Fields.{held}
+use Rattle.arithmetic.proofs.Stages.{whole-root, scale-small, odd-cut, negative-root, zero-root}
+use Rattle.arithmetic.proofs.Distance.{nearer, twice-square, which}
 
 -- ---- the result, from what the second stage hands on: half of the whole root, rounded up, since no tie occurs
-half-up : (w r : ℕ) (cut : Bool) → cut ≡ ltb (r * r) w → Whole w r → w % 2 ≡ 0 → closest (2 * r + cond cut 1 0) 4 ≡ (r + 1) / 2
-half-up w r cut e p even = go (r % 2) refl
+half-up : (r : ℕ) (cut : Bool) → (r % 2 ≡ 1 → cut ≡ true) → closest (2 * r + cond cut 1 0) 4 ≡ (r + 1) / 2
+half-up r cut odd = go (r % 2) refl
   where
     go : (b : ℕ) → r % 2 ≡ b → closest (2 * r + cond cut 1 0) 4 ≡ (r + 1) / 2
     go zero z = even-digit r cut z ∙ omega arith
-    go (suc zero) z = cut-digit r cut (e ∙ is-true _ (lt→ltb (r * r) w (not-tie w r p even z))) ∙ omega arith
+    go (suc zero) z = cut-digit r cut (odd z) ∙ omega arith
     go (suc (suc b)) z = omega arith
 
 value-magnitude : (v : Float) (a : ℕ) → HasValue v false a (2 ^ 1074) → magnitude v ≡ a
@@ -61,68 +44,35 @@ value-magnitude nan a h = absurd h
 value-magnitude (inf s) a h = absurd h
 value-magnitude (fin s m e) a h = magnitude-is m e a (h .1)
 
-module _ (x : Float) (significand exponent r : ℕ) (cut : Bool) (scale : ℕ) (p : T (positive x)) (k : Significand (magnitude x) significand exponent) (R : WholeRoot (significand * 2 ^ exponent * 2 ^ 1074) r cut scale) where
-  whole : Whole (front (significand * 2 ^ exponent * 2 ^ 1074) scale) r
-  whole = record { under = R .under; over = R .over }
+module _ (x : Float) (f : T (fits binary64 x)) (p : T (positive x)) where
+  handed : HandedOn x
+  handed = whole-root x f p
+
+  abbrev r : ℕ
+  r = handed .whole
+
+  abbrev scale : ℕ
+  scale = handed .scale
+
+  odd : r % 2 ≡ 1 → r * 2 ^ scale * (r * 2 ^ scale) < magnitude x * 2 ^ 1074
+  odd = odd-cut x f p r (handed .cut) scale (handed .is)
 
   result-is : sqrt x ≡ units binary64 false ((r + 1) / 2) (suc scale)
   result-is =
-      sym (joined x significand exponent r cut scale p k R)
-      ∙ nearest-is r cut scale (R .least) (R .most)
-      ∙ ap (λ (n : ℕ). units binary64 false n (suc scale)) (half-up _ r cut (R .rest) whole (R .even))
+      handed .rounded
+      ∙ nearest-is r (handed .cut) scale (handed .is .least) (handed .is .most)
+      ∙ ap (λ (n : ℕ). units binary64 false n (suc scale)) (half-up r (handed .cut) (λ o. handed .is .flag ∙ is-true _ (lt→ltb _ _ (odd o))))
 
   result-value : HasValue (units binary64 false ((r + 1) / 2) (suc scale)) false ((r + 1) / 2 * 2 ^ suc scale) (2 ^ 1074)
-  result-value = units-value ((r + 1) / 2) (suc scale) (omega (arith, R .most)) (omega (arith, R .small))
+  result-value = units-value ((r + 1) / 2) (suc scale) (omega (arith, handed .is .most)) (omega (arith, scale-small x f p r (handed .cut) scale (handed .is)))
 
-  result-magnitude : magnitude (sqrt x) ≡ (r + 1) / 2 * 2 ^ suc scale
-  result-magnitude = ap magnitude result-is ∙ value-magnitude _ _ result-value
-
-  result-positive : T (positive (sqrt x))
-  result-positive = subst (λ (v : Float). T (positive v)) (sym result-is) (positive-of-value (units binary64 false ((r + 1) / 2) (suc scale)) ((r + 1) / 2 * 2 ^ suc scale) (2 ^ 1074) result-value (mul-pos {m = (r + 1) / 2} (omega (arith, R .least)) (pow-pos (suc scale))))
-
--- ---- every positive double has what the second stage hands on
-record Staged (x : Float) : Type 0 where
-  significand : ℕ
-  exponent : ℕ
-  r : ℕ
-  cut : Bool
-  scale : ℕ
-  value : Significand (magnitude x) significand exponent
-  root-of : WholeRoot (significand * 2 ^ exponent * 2 ^ 1074) r cut scale
-
-remainder-of : (w r : ℕ) → Whole w r → Remainder w r (w - r * r)
-remainder-of w r p = record { total = omega arith; rest = omega (arith, sq-step r) }
-
-staged : (x : Float) → T (fits binary64 x) → T (positive x) → Staged x
-staged x f p =
-    let h = held x f p in
-    let s : ℕ = h .significand in
-    let e : ℕ = h .exponent in
-    let k = h .value .bounded in
-    let z : ℕ = leadingZeros 64 s in
-    let a : ℕ = s * 2 ^ (z - 11) * (1 + (e + 1031 - z) % 2) in
-    let r : ℕ = isqrt (a * 2 ^ 54) in
-    record {
-      significand = s;
-      exponent = e;
-      r = r;
-      cut = ltb 0 (a * 2 ^ 54 - r * r);
-      scale = (e + 1031 - z) / 2;
-      value = h .value;
-      root-of = rooted s e z k (shifted s (k .some) (k .digits)) r (a * 2 ^ 54 - r * r) (remainder-of (a * 2 ^ 54) r (isqrt-whole (a * 2 ^ 54)));
-    }
-
-module _ (x : Float) (f : T (fits binary64 x)) (p : T (positive x)) where
   root-positive : T (positive (sqrt x))
-  root-positive = let s = staged x f p in result-positive x (s .significand) (s .exponent) (s .r) (s .cut) (s .scale) p (s .value) (s .root-of)
+  root-positive = subst (λ (v : Float). T (positive v)) (sym result-is) (positive-of-value (units binary64 false ((r + 1) / 2) (suc scale)) ((r + 1) / 2 * 2 ^ suc scale) (2 ^ 1074) result-value (mul-pos {m = (r + 1) / 2} (omega (arith, handed .is .least)) (pow-pos (suc scale))))
 
   nearest-of-all : (c j : ℕ) → c < 2 ^ 53 → Nearer (magnitude x * 2 ^ 1074) (magnitude (sqrt x)) (c * 2 ^ j)
   nearest-of-all c j small =
-      let s = staged x f p in
-      let R = s .root-of in
-      let n : s .significand * 2 ^ s .exponent * 2 ^ 1074 ≡ magnitude x * 2 ^ 1074 = ap (λ (i : ℕ). i * 2 ^ 1074) (s .value .is) in
-      rw (result-magnitude x (s .significand) (s .exponent) (s .r) (s .cut) (s .scale) p (s .value) R, ← n)
-      (nearer _ (s .r) (s .scale) (s .significand * 2 ^ s .exponent * 2 ^ 1074) (whole x (s .significand) (s .exponent) (s .r) (s .cut) (s .scale) p (s .value) R) (R .even) (R .scaled) (R .least) (R .most) c j small)
+      let R = handed .is in
+      rw (ap magnitude result-is ∙ value-magnitude _ _ result-value) (nearer _ r scale (R .under) (R .over) odd (R .least) (R .most) c j small)
 
 -- ---- finite doubles that are not negative: zeros and positive ones
 kind : (x : Float) → NotNegative x → Zero x ⊎ T (positive x)
@@ -148,7 +98,7 @@ positive-not-negative (fin false m e) f p = record { double = f; number = refl; 
 pub held-by : (y : Float) → NotNegative y → (c : ℕ) × (j : ℕ) × (c < 2 ^ 53) × (c * 2 ^ j ≡ magnitude y)
 held-by y h = elim (kind y h) [
   | inl z ↦ (0, 0, omega arith, sym (zero-magnitude z))
-  | inr q ↦ let k = held y (h .double) q in (k .significand, k .exponent, k .value .bounded .digits, k .value .is)
+  | inr q ↦ let k = held y (h .double) q in (k .significand, k .exponent, k .value .digits, k .value .is)
 ]
 
 -- a double's bits are its sign and its magnitude
@@ -173,15 +123,12 @@ same-magnitude (fin b m e) (fin c n d) hv hy s h =
 -- what is nearer to the root than the root itself is the root
 apart : (n v y : ℕ) → Nearer n v y → y * y ≡ n → v ≡ y
 apart n v y h e = elim (which v y) [
-  | inl l ↦ absurd (omega (arith, h .below l, square-lt {a = v + y} {b = 2 * y} (omega arith), quad y))
+  | inl l ↦ absurd (omega (arith, h .below l, square-lt {a = v + y} {b = 2 * y} (omega arith), twice-square y))
   | inr g ↦ elim (eq-or-lt-of-le g) [
     | inl z ↦ sym z
-    | inr l ↦ absurd (omega (arith, h .above l, square-lt {a = 2 * y} {b = v + y} (omega arith), quad y))
+    | inr l ↦ absurd (omega (arith, h .above l, square-lt {a = 2 * y} {b = v + y} (omega arith), twice-square y))
   ]
 ]
-  where
-    quad : (y : ℕ) → 2 * y * (2 * y) ≡ 4 * (y * y)
-    quad y = simp (mul-assoc, mul-left-comm) (omega arith)
 
 -- ---- what comes out is a double
 nearestTo-fits : (r : ℕ) (cut : Bool) (scale : ℕ) → T (fits binary64 (nearestTo r cut scale))

@@ -3,7 +3,7 @@ use mathlib.Core.Path.{_≡_, refl, sym, ap, _∙_}
 use mathlib.Core.Bool.{Bool, true, false, not, cond}
 use Prim.Native.Nat.{ℕ, zero, suc, _+_, _*_, _/_, _^_, _≤_, _<_}
 use native.Mathlib.Omega.{arith}
-use native.Mathlib.Nat.{le-trans, lt-of-le-of-lt, lt-of-lt-of-le, le-antisymm, mul-le-mul, mul-add, add-mul, mul-assoc, mul-left-comm, lt-of-not-le, not-le-of-lt, pow-suc, le-of-eq}
+use native.Mathlib.Nat.{le-trans, lt-of-le-of-lt, lt-of-lt-of-le, le-of-lt, mul-le-mul, mul-lt-mul-of-pos-right, mul-add, add-mul, mul-assoc, mul-left-comm, lt-of-not-le, not-le-of-lt, pow-suc, le-of-eq}
 use lib.Dec.{T, leb, leb→le, nleb→lt}
 use lib.Pow.{pow-mono, pow-add}
 use lib.Ieee.{size}
@@ -25,12 +25,12 @@ lt-square {a} {b} h = omega (arith, lt-of-not-le (λ (g : b + 1 ≤ a). not-le-o
 pub less-root : {a b : ℕ} → a * a < b * b → a < b
 less-root {a} {b} h = lt-of-not-le (λ (g : b ≤ a). not-le-of-lt h (mul-le-mul g g))
 
+pub square-lt : {a b : ℕ} → a < b → a * a < b * b
+square-lt {a} {b} h = lt-of-le-of-lt (mul-le-mul {n₁ = a} {m₁ = a} {n₂ = a} {m₂ = b} (le-of-eq refl) (le-of-lt h)) (mul-lt-mul-of-pos-right h (omega arith))
+
 -- what has a square above something is not 0
 pub some-root : (r a : ℕ) → a < r * r → 0 < r
 some-root r a h = less-root {a = 0} {b = r} (omega arith)
-
-pub whole-unique : (n r s : ℕ) → Whole n r → Whole n s → r ≡ s
-whole-unique n r s p q = le-antisymm (lt-square (lt-of-le-of-lt (p .under) (q .over))) (lt-square (lt-of-le-of-lt (q .under) (p .over)))
 
 -- one more digit of base 4
 doubled-under : (n q : ℕ) → q * q ≤ n / 4 → 2 * q * (2 * q) ≤ n

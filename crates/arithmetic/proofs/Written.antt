@@ -3,31 +3,14 @@ use mathlib.Core.Path.{_≡_, refl, sym, ap, _∙_}
 use mathlib.Core.Bool.{Bool, true, false, not, cond}
 use Prim.Native.Nat.{ℕ, zero, suc, _+_, _*_, _/_, _%_, _^_, _≤_, _<_}
 use native.Mathlib.Omega.{arith}
-use native.Mathlib.Nat.{mul-le-mul-right, mul-lt-mul-of-pos-right, mul-pos, mul-assoc, mul-comm, mul-le-mul}
+use native.Mathlib.Nat.{mul-le-mul}
 use native.Mathlib.Numerals.{add-one}
-use lib.Dec.{T, lit<}
-use lib.Pow.{pow-pos}
+use lib.Dec.{T}
 use lib.Ieee.{binary64, units, ofBits, nanBits}
-use lib.Ieee.Nearest.{closest, closest-same}
+use lib.Ieee.Nearest.{closest}
 use Rattle.arithmetic.specs.Sqrt.{nearestTo}
-use Rattle.arithmetic.proofs.Rounding.{closest-even, closest-odd, closest-tie, round-at}
+use Rattle.arithmetic.proofs.Rounding.{bit, closest-even, closest-odd, closest-tie, nearest-is}
 use Rattle.arithmetic.proofs.Packing.{pack, pack-nan}
-
-four : (X D : ℕ) → X * D * 4 ≡ X * (4 * D)
-four X D = simp (mul-assoc, mul-comm)
-
-bit : (c : Bool) → cond c 1 0 ≤ 1
-bit true = omega arith
-bit false = omega arith
-
-pub nearest-is : (r : ℕ) (c : Bool) (sc : ℕ) → 2 ^ 53 ≤ r → r < 2 ^ 54 → nearestTo r c sc ≡ units binary64 false (closest (2 * r + cond c 1 0) 4) (suc sc)
-unfolding nearestTo
-nearest-is r c sc lo hi =
-    let X : ℕ = 2 * r + cond c 1 0 in
-    let a : 2 ^ 54 ≤ X = omega (arith, bit c) in
-    let b : X < 2 ^ 55 = omega (arith, bit c) in
-    round-at (X * 2 ^ sc) sc (mul-le-mul-right (2 ^ sc) a) (mul-lt-mul-of-pos-right b (pow-pos sc))
-    ∙ ap (λ (n : ℕ). units binary64 false n (suc sc)) (closest-same (X * 2 ^ sc) (4 * 2 ^ sc) X 4 (mul-pos (lit< tt) (pow-pos sc)) (lit< tt) (four X (2 ^ sc)))
 
 module _ (r : ℕ) (c : Bool) (sc q : ℕ) (lo : 2 ^ 53 ≤ r) (hi : r < 2 ^ 54) (s : sc < 2000) (z : closest (2 * r + cond c 1 0) 4 ≡ q) (ql : 2 ^ 52 ≤ q) (qh : q ≤ 2 ^ 53) where
   pub writes : ofBits binary64 ((sc + 1) * 2 ^ 52 + q) ≡ nearestTo r c sc
@@ -38,13 +21,13 @@ module _ (r : ℕ) (c : Bool) (sc q : ℕ) (lo : 2 ^ 53 ≤ r) (hi : r < 2 ^ 54)
 
 -- what stands before the last digit of r, and one more where that digit says so
 pub even-digit : (r : ℕ) (c : Bool) → r % 2 ≡ 0 → closest (2 * r + cond c 1 0) 4 ≡ r / 2
-even-digit r c e = closest-even (r / 2) (2 * r + cond c 1 0) 1 (omega (arith, bit c)) (omega (arith, bit c))
+even-digit r c e = closest-even (r / 2) (2 * r + cond c 1 0) 2 (omega (arith, bit c)) (omega (arith, bit c))
 
 odd-digit : (r : ℕ) → r % 2 ≡ 1 → closest (2 * r + 1) 4 ≡ r / 2 + 1
-odd-digit r e = closest-odd (r / 2) (2 * r + 1) 1 (omega arith) (omega arith) ∙ sym (add-one (r / 2))
+odd-digit r e = closest-odd (r / 2) (2 * r + 1) 2 (omega arith) (omega arith) ∙ sym (add-one (r / 2))
 
 tie-digit : (r : ℕ) → r % 2 ≡ 1 → closest (2 * r + 0) 4 ≡ r / 2 + r / 2 % 2
-tie-digit r e = closest-tie (r / 2) (2 * r + 0) 1 (omega arith) (omega arith)
+tie-digit r e = closest-tie (r / 2) (2 * r + 0) 2 (omega arith) (omega arith)
 
 -- the digit below the last one of the result, and the result's last digit
 pub bits-most : (r : ℕ) → r % 2 * (r / 2 % 2) ≤ 1

@@ -6,6 +6,7 @@ pub mod Sign
 pub mod Outcome
 pub mod Sqrt
 pub mod SqrtStages
+pub mod InfinitelyPrecise
 pub mod Nearest
 pub mod AtLeast
 pub mod DoubleList

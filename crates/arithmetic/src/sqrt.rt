@@ -1,12 +1,15 @@
-// The square root of a double, correctly rounded, in the order of IEEE 754's own text: zero and negative
-// operands, then the root as though with unlimited precision, then rounding.
+// The square root of a double: squareRoot of IEEE 754-2019, whose clauses stand in parentheses, in the order of its own text.
+// Negative numbers, infinity, NaN and zeros come first; then the root is formed as though with unlimited precision, then rounded.
 ghost use mathlib.Core.Path.{_≡_};
-ghost use Prim.Native.Nat.{_+_, _*_, _^_, _≤_, _<_};
+ghost use Prim.Native.Nat.{_^_, _≤_, _<_};
 ghost use lib.Dec.{T};
 ghost use lib.Ieee.Positive.{positive};
 ghost use Rattle.arithmetic.specs.Sqrt.{magnitude, nearestTo, sqrt, sqrt-call};
-ghost use Rattle.arithmetic.specs.SqrtStages.{Remainder, Digits, Significand, Bounded, WholeRoot};
+ghost use Rattle.arithmetic.specs.Nearest.{NotNegative};
+ghost use Rattle.arithmetic.specs.SqrtStages.{Significand};
+ghost use Rattle.arithmetic.specs.InfinitelyPrecise.{WholeRoot};
 use crate::double::finite;
+use crate::isqrt::long_root;
 use crate::outcome::Outcome;
 
 // A positive number: significand * 2^exponent of the smallest doubles, 2^-1074.
@@ -15,156 +18,86 @@ struct Number {
     exponent: u64,
 }
 
-// The whole part of a root, and what its square leaves of the number.
-struct Parts {
-    root: u64,
-    rest: u64,
-}
-
-// A root without rounding: whole * 2^scale of the smallest doubles, and less than one more 2^scale where something was cut off.
-struct Root {
+// The intermediate result, correct to infinite precision (5.1): whole * 2^scale of the smallest doubles, and less than one more 2^scale
+// where something was cut off.
+struct IntermediateResult {
     whole: u64,
     cut: bool,
     scale: u64,
 }
 
-// A guess at the root of a, within a part in a hundred: a straight line below 2^53, and another above.
-fn line(a: u64) -> u64
-    requires { ⌜ a < 2 ^ 54 ⌝ }
-    ensures { λ r. ⌜ (2 ^ 25 ≤ r) × (r < 2 ^ 28) ⌝ }
-{
-    let h = a / 0x400_0000;
-    let o = h / 0x800_0000;
-    h * (427 - 125 * o) / 1024 + 39605282 + 16404923 * o
-}
-
-// The guess after two of Newton's steps. Nothing is proved of how good it is: `settle` makes any guess right.
-fn guess(a: u64) -> u64
-    requires { ⌜ a < 2 ^ 54 ⌝ }
-    ensures { λ r. ⌜ r < 2 ^ 27 ⌝ }
-{
-    let s = line(a);
-    let t = (s + a / s) / 2;
-    let g = (t + a / t) / 2;
-    if 0x800_0000 <= g {
-        return 0x7ff_ffff;
-    }
-    g
-}
-
-// The root of a, from any guess.
-fn settle(a: u64, g: u64) -> Parts
-    requires { ⌜ (a < 2 ^ 54) × (g < 2 ^ 27) ⌝ }
-    ensures { λ r. ⌜ Remainder a (r .root) (r .rest) ⌝ }
-{
-    let mut s = g;
-    while a < s * s {
-        s -= 1;
-    }
-    let mut d = a - s * s;
-    while 2 * s + 1 <= d {
-        d -= 2 * s + 1;
-        s += 1;
-    }
-    Parts { root: s, rest: d }
-}
-
-// From the root of a number to the root of that number * b * b: twice as many digits, by one division.
-fn extend(s: u64, d: u64, b: u64) -> Parts
-    requires { ⌜ Digits s d b ⌝ }
-    ensures { λ r. ⌜ Remainder ((s * s + d) * (b * b)) (r .root) (r .rest) ⌝ }
-{
-    let n = d * b;
-    let q = n / (2 * s);
-    let u = (n % (2 * s)) * b;
-    let r = s * b + q;
-    let sq = q * q;
-    if sq <= u {
-        return Parts {
-            root: r,
-            rest: u - sq,
-        };
-    }
-    Parts {
-        root: r - 1,
-        rest: u + (2 * r - 1) - sq,
-    }
-}
-
-// The root of a * 2^54.
-fn long_root(a: u64) -> Parts
-    requires { ⌜ (2 ^ 52 ≤ a) × (a < 2 ^ 54) ⌝ }
-    ensures { λ r. ⌜ Remainder (a * 2 ^ 54) (r .root) (r .rest) ⌝ }
-{
-    let p = settle(a, guess(a));
-    extend(p.root, p.rest, 0x800_0000)
-}
-
-// A positive double's significand and exponent.
-fn split(x: f64) -> Number
+// A positive double, by its biased exponent and its trailing significand (3.4).
+fn decoded(x: f64) -> Number
     requires { ⌜ T (positive x) ⌝ }
     ensures { λ r. ⌜ Significand (magnitude x) (r .significand) (r .exponent) ⌝ }
 {
     let b = f64::to_bits(x);
-    let e = b / 0x10_0000_0000_0000;
-    let t = b % 0x10_0000_0000_0000;
-    if e == 0 {
+    let biased = b / 0x10_0000_0000_0000;
+    let trailing = b % 0x10_0000_0000_0000;
+    if biased == 0 {
         return Number {
-            significand: t,
+            significand: trailing,
             exponent: 0,
         };
     }
     Number {
-        significand: t + 0x10_0000_0000_0000,
-        exponent: e - 1,
+        significand: trailing + 0x10_0000_0000_0000,
+        exponent: biased - 1,
     }
 }
 
-// The root as though with unlimited precision. Counting the leading zeros brings a subnormal's significand to 53 digits too.
-fn unrounded(significand: u64, exponent: u64) -> Root
-    requires { ⌜ Bounded significand exponent ⌝ }
-    ensures { λ r. ⌜ WholeRoot (significand * 2 ^ exponent * 2 ^ 1074) (r .whole) (r .cut) (r .scale) ⌝ }
+// The root as though with unlimited precision (5.1). In units of 2^-1074 it is the root of significand * 2^(exponent + 1074). Counting
+// its leading zeros brings the significand, a subnormal's too, to 53 digits, and 54 more follow it under the whole root. Half of the
+// power of two that is left is the scale; an odd power's other factor stays under the root.
+fn infinitely_precise_root(x: f64) -> IntermediateResult
+    requires { ⌜ T (positive x) ⌝ }
+    ensures { λ r. ⌜ WholeRoot x (r .whole) (r .cut) (r .scale) ⌝ }
 {
-    let z = u64::leading_zeros(significand) as u64;
-    let p = exponent + 1031 - z;
-    let a = (significand << (z - 11)) * (1 + p % 2);
-    let s = long_root(a);
-    Root {
-        whole: s.root,
-        cut: 0 < s.rest,
-        scale: p / 2,
+    let n = decoded(x);
+    let shift = u64::leading_zeros(n.significand) as u64 - 11;
+    let power = n.exponent + 1020 - shift;
+    let parts = long_root((n.significand << shift) * (1 + power % 2));
+    IntermediateResult {
+        whole: parts.root,
+        cut: 0 < parts.rest,
+        scale: power / 2,
     }
 }
 
-// Rounding, to the nearest double and at a tie to the even one. It reads the whole part, what was cut off and the scale alone.
-fn round(p: Root) -> f64
-    requires { ⌜ (2 ^ 53 ≤ p .whole) × (p .whole < 2 ^ 54) × (p .scale < 2000) ⌝ }
-    ensures { λ r. ⌜ r ≡ nearestTo (p .whole) (p .cut) (p .scale) ⌝ }
+// roundTiesToEven (4.3.1), to 53 digits; `half` is the one after them. Where something was cut off, it is no tie.
+fn round_ties_to_even(r: IntermediateResult) -> f64
+    requires { ⌜ (2 ^ 53 ≤ r .whole) × (r .whole < 2 ^ 54) × (r .scale < 2000) ⌝ }
+    ensures { λ v. ⌜ v ≡ nearestTo (r .whole) (r .cut) (r .scale) ⌝ }
 {
-    let w = p.whole;
-    let q = w / 2;
-    let s = (p.scale + 1) * 0x10_0000_0000_0000;
-    if p.cut {
-        return f64::from_bits(s + (q + w % 2));
-    }
-    f64::from_bits(s + (q + w % 2 * (q % 2)))
+    let kept = r.whole / 2;
+    let half = r.whole % 2;
+    let tie = half * (kept % 2);
+    let up = if r.cut { half } else { tie };
+    f64::from_bits((r.scale + 1) * 0x10_0000_0000_0000 + (kept + up))
 }
 
-// The root inside a run: a negative number's is NaN.
-pub fn sqrt_unchecked(x: f64) -> f64
+// The root of a number that is not negative.
+fn root(x: f64) -> f64
+    requires { ⌜ NotNegative x ⌝ }
     ensures { λ r. ⌜ r ≡ sqrt x ⌝ }
 {
     if x == 0.0 {
-        return x;
+        return x; // squareRoot(-0) is -0 (6.3)
     }
+    round_ties_to_even(infinitely_precise_root(x))
+}
+
+// The root inside a run.
+pub fn sqrt_unchecked(x: f64) -> f64
+    ensures { λ r. ⌜ r ≡ sqrt x ⌝ }
+{
     if x < 0.0 {
-        return 0.0 / 0.0;
+        return 0.0 / 0.0; // an invalid operation: NaN (7.2)
     }
-    if x < 1.0 / 0.0 {
-        let n = split(x);
-        return round(unrounded(n.significand, n.exponent));
+    if !finite(x) {
+        return x; // infinity (6.1), NaN (6.2)
     }
-    x
+    root(x)
 }
 
 // The root as a call of its own, and how the call ended. The value beside a refusal is zero.
@@ -190,6 +123,6 @@ pub fn sqrt(x: f64) -> SqrtAnswer
     }
     SqrtAnswer {
         outcome: Outcome::Complete,
-        value: sqrt_unchecked(x),
+        value: root(x),
     }
 }

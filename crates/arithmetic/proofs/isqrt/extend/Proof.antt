@@ -1,4 +1,4 @@
--- `sqrt::extend` meets its contract.
+-- `isqrt::extend` meets its contract.
 use borrow.Author.Needs.{needs}
 use native.Mathlib.Omega.{arith}
 use Prim.Native.Nat.{ℕ, _+_, _-_, _*_, _≤_, _<_}
@@ -6,8 +6,8 @@ use mathlib.Core.Path.{_≡_}
 use Rattle.arithmetic.specs.SqrtStages.{Remainder}
 use Rattle.arithmetic.proofs.WholeRoot.{sq-step, some-root}
 use Rattle.arithmetic.proofs.Doubling.{Bounds, bounds, total, quotient, modulus}
-use Rattle.arithmetic.proofs.sqrt.extend.Statement.{statement}
-use Rattle.arithmetic.proofs.sqrt.extend.Tie as tie
+use Rattle.arithmetic.proofs.isqrt.extend.Statement.{statement}
+use Rattle.arithmetic.proofs.isqrt.extend.Tie as tie
 
 known : (c : tie.Start) → Bounds (c .args .s) (c .args .d) (c .args .b)
 known c = bounds _ _ _ (c .pre)

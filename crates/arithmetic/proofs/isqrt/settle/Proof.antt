@@ -1,11 +1,11 @@
--- `sqrt::settle` meets its contract.
+-- `isqrt::settle` meets its contract.
 use mathlib.Core.Path.{_≡_}
 use Prim.Native.Nat.{ℕ, _+_, _*_, _^_, _≤_, _<_}
 use native.Mathlib.Omega.{arith}
 use native.Mathlib.Nat.{mul-le-mul, le-of-lt}
 use Rattle.arithmetic.proofs.WholeRoot.{sq-step, less-root, some-root}
-use Rattle.arithmetic.proofs.sqrt.settle.Statement.{statement}
-use Rattle.arithmetic.proofs.sqrt.settle.Tie as tie
+use Rattle.arithmetic.proofs.isqrt.settle.Statement.{statement}
+use Rattle.arithmetic.proofs.isqrt.settle.Tie as tie
 
 abbrev Inv-loop : tie.InvT-loop
 Inv-loop a g s₀ s = s < 2 ^ 27

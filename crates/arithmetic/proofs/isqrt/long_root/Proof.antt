@@ -1,10 +1,10 @@
--- `sqrt::long_root` meets its contract.
+-- `isqrt::long_root` meets its contract.
 use borrow.Author.Needs.{needs}
 use Prim.Native.Nat.{_^_}
 use native.Mathlib.Omega.{arith}
 use Rattle.arithmetic.proofs.Doubling.{least, most}
-use Rattle.arithmetic.proofs.sqrt.long_root.Statement.{statement}
-use Rattle.arithmetic.proofs.sqrt.long_root.Tie as tie
+use Rattle.arithmetic.proofs.isqrt.long_root.Statement.{statement}
+use Rattle.arithmetic.proofs.isqrt.long_root.Tie as tie
 
 extend-requires : tie.Need-extend-requires
 extend-requires c κs =

@@ -1,10 +1,10 @@
--- `sqrt::line` meets its contract.
+-- `isqrt::line` meets its contract.
 use borrow.Author.Needs.{needs}
 use Prim.Native.Nat.{_-_, _*_, _/_, _^_, _≤_}
 use native.Mathlib.Omega.{arith}
 use native.Mathlib.Nat.{mul-le-mul}
-use Rattle.arithmetic.proofs.sqrt.line.Statement.{statement}
-use Rattle.arithmetic.proofs.sqrt.line.Tie as tie
+use Rattle.arithmetic.proofs.isqrt.line.Statement.{statement}
+use Rattle.arithmetic.proofs.isqrt.line.Tie as tie
 
 area : (c : tie.Start) → c .args .a / 67108864 * (427 - 125 * (c .args .a / 67108864 / 134217728)) ≤ 2 ^ 28 * 427
 area c = mul-le-mul {n₂ = 2 ^ 28} {m₂ = 427} (omega arith) (omega arith)

@@ -1,10 +1,10 @@
--- `sqrt::guess` meets its contract.
+-- `isqrt::guess` meets its contract.
 use borrow.Author.Needs.{needs}
 use Prim.Native.Nat.{_+_, _/_}
 use native.Mathlib.Omega.{arith}
 use native.Mathlib.Nat.{div-le-self}
-use Rattle.arithmetic.proofs.sqrt.guess.Statement.{statement}
-use Rattle.arithmetic.proofs.sqrt.guess.Tie as tie
+use Rattle.arithmetic.proofs.isqrt.guess.Statement.{statement}
+use Rattle.arithmetic.proofs.isqrt.guess.Tie as tie
 
 add-t : tie.Need-add-t
 add-t c = omega (arith, div-le-self (c .before .args .a) (c .line .result))
