@@ -32,7 +32,15 @@ unfolding sqrt
 negative-root negative-inf = refl
 negative-root (negative-of m e) = refl
 
-pub other-root : (x : Float) → lt x plus-zero ≡ false → finite x ≡ false → x ≡ sqrt x
+-- below infinity, and not negative
+pub finite-below : (x : Float) → lt x plus-zero ≡ false → lt x (inf false) ≡ true → finite x ≡ true
+unfolding lt ofBits
+finite-below nan h k = absurd (holds k)
+finite-below (inf false) h k = absurd (holds k)
+finite-below (inf true) h k = absurd (fails h tt)
+finite-below (fin s m e) h k = refl
+
+pub other-root : (x : Float) → lt x plus-zero ≡ false → lt x (inf false) ≡ false → x ≡ sqrt x
 unfolding sqrt lt ofBits
 other-root nan h k = refl
 other-root (inf false) h k = refl

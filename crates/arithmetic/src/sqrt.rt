@@ -94,7 +94,7 @@ pub fn sqrt_unchecked(x: f64) -> f64
     if x < 0.0 {
         return 0.0 / 0.0; // an invalid operation: NaN (7.2)
     }
-    if !finite(x) {
+    if !(x < 1.0 / 0.0) {
         return x; // infinity (6.1), NaN (6.2)
     }
     root(x)
