@@ -4,7 +4,7 @@ use mathlib.Core.Bool.{Bool, true, false, cond, false≢true}
 use mathlib.Core.Logic.{inl, inr, _⊎_}
 use Prim.Native.Nat.{ℕ, zero, suc, _+_, _-_, _*_, _/_, _%_, _^_, _<_}
 use native.Mathlib.Omega.{arith}
-use native.Mathlib.Nat.{eq-or-lt-of-le, mul-assoc, mul-left-comm, mul-pos, zero-mul, zero-div, zero-lt-suc}
+use native.Mathlib.Nat.{eq-or-lt-of-le, mul-pos, zero-mul, zero-div, zero-lt-suc}
 use lib.IntN.{ℤ}
 use lib.Dec.{T, ltb, lt→ltb}
 use lib.Pow.{pow-pos}
