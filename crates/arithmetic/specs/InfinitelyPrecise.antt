@@ -8,8 +8,8 @@ use lib.Ieee.{Float, binary64, fits, ofBits, round}
 use lib.Ieee.Positive.{positive}
 use Rattle.arithmetic.specs.Sqrt.{magnitude, nearestTo, sqrt}
 
--- In units of 2^-1074 the root of x is the root of the whole number magnitude x * 2^1074. Divided by 2^scale, its whole part is `whole`,
--- of 54 binary digits: 53 for a double, and one more for the half. `cut` says whether anything was cut off behind it.
+-- In units of 2^-1074 the root of x is the root of the whole number magnitude x * 2^1074. `whole` is the whole part of that root divided by
+-- 2^scale, of 54 binary digits: 53 for a double, and one more for the half. `cut` says whether anything was cut off behind it.
 pub record WholeRoot (x : Float) (whole : ℕ) (cut : Bool) (scale : ℕ) : Type 0 where
   pub under : whole * 2 ^ scale * (whole * 2 ^ scale) ≤ magnitude x * 2 ^ 1074
   pub over : magnitude x * 2 ^ 1074 < (whole + 1) * 2 ^ scale * ((whole + 1) * 2 ^ scale)
@@ -41,7 +41,7 @@ RoundsAlikeTheorem =
     → cut ≡ ltb (whole * 2 ^ scale * den) num
     → round binary64 false num (den * 2 ^ 1074) ≡ nearestTo whole cut scale
 
--- By hand: the smallest double, the largest subnormal, 2, the largest double, and one whose root lies just above halfway between two doubles.
+-- By hand: the smallest positive double, the largest subnormal, 2, the largest double, and one whose root lies just above halfway between two doubles.
 abbrev pub Examples : Type 0
 Examples =
     WholeRoot (ofBits binary64 1) (2 ^ 53) false 484

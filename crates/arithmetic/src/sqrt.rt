@@ -12,13 +12,13 @@ use crate::double::finite;
 use crate::isqrt::long_root;
 use crate::outcome::Outcome;
 
-// A positive number: significand * 2^exponent of the smallest doubles, 2^-1074.
+// A positive number: significand * 2^exponent units of 2^-1074.
 struct Number {
     significand: u64,
     exponent: u64,
 }
 
-// The intermediate result, correct to infinite precision (5.1): whole * 2^scale of the smallest doubles, and less than one more 2^scale
+// The intermediate result, correct to infinite precision (5.1): whole * 2^scale units of 2^-1074, and less than one more 2^scale of them
 // where something was cut off.
 struct IntermediateResult {
     whole: u64,
