@@ -37,6 +37,7 @@ static void factor(const double *a, const double *b) {
   printf("p %zu %zu %zu\n", p[0], p[1], p[2]);
   print_step("tied step", f.tied);
   print_step("phase-two step", f.phase2);
+  printf("%zu of %d roots inexact\n", f.inexact, N);
   millracer_refusal solved = millracer_solve(l, N * N, N, p, N, b, N, y, N);
   if (solved.number != MILLRACER_COMPLETE) {
     print_refusal(solved);

@@ -69,8 +69,9 @@ enum { MILLRACER_GMW81 = 1, MILLRACER_SE90 = 2, MILLRACER_SE99 = 3 };
 
 typedef struct {
   millracer_refusal refusal;
-  size_t tied;   /* the first step whose pivot search was tied, or MILLRACER_NO_STEP */
-  size_t phase2; /* the step at which SE90 or SE99 left phase one, or MILLRACER_NO_STEP */
+  size_t tied;    /* the first step whose pivot search was tied, or MILLRACER_NO_STEP */
+  size_t phase2;  /* the step at which SE90 or SE99 left phase one, or MILLRACER_NO_STEP */
+  size_t inexact; /* how many of the n roots on the diagonal rounding changed; 0 beside a refusal */
 } millracer_factorization;
 
 millracer_factorization millracer_factor_doubles(size_t method, const double *a, size_t a_len, size_t n, double *l,
@@ -82,7 +83,9 @@ millracer_factorization millracer_factor_bytes(size_t method, const uint8_t *a, 
 
 /* Factors the symmetric matrix a of n * n entries. Lengths: l and work n * n, e and p n.
  * l: the lower factor. e[r]: what was added for row r of a. p[t]: the row of a taken at step t. work: +0.0 afterwards.
- * Refusal 9 writes +0.0 over l and e, and 0 to n - 1 into p. */
+ * Refusal 9 writes +0.0 over l and e, and 0 to n - 1 into p.
+ * The roots on the diagonal are one a row: GMW81's of d, and in SE90 and SE99 that of each step and of each of the last
+ * rows. Beta's and the eigenvalues' don't count. */
 static inline millracer_factorization millracer_factor(size_t method, const double *a, size_t a_len, size_t n,
                                                        double *l, size_t l_len, double *work, size_t work_len,
                                                        double *e, size_t e_len, size_t *p, size_t p_len) {
@@ -129,7 +132,7 @@ static inline millracer_refusal millracer_solve(const double *l, size_t l_len, s
 /* ---- records */
 
 /* The bytes of the longest matrix record (without contract numbers 195 less) and of the longest answer record. */
-enum { MILLRACER_LONGEST_RECORD = 18638, MILLRACER_LONGEST_ANSWER = 18885 };
+enum { MILLRACER_LONGEST_RECORD = 18638, MILLRACER_LONGEST_ANSWER = 18889 };
 
 typedef struct {
   millracer_refusal refusal; /* also in the answer record */
@@ -167,9 +170,11 @@ static inline unsigned millracer_other_tag_due(size_t field) { return field == 2
 typedef struct {
   millracer_refusal refusal;
   double value;
+  size_t inexact; /* 1 if rounding changed the root: no double has x as its exact, unrounded square; else 0 */
 } millracer_root;
 
-/* Of -0.0 it is -0.0. Refuses an operand that is not finite (7) or is negative (9); the value is then 0. */
+/* Of -0.0 it is -0.0, and exact. Refuses an operand that is not finite (7) or is negative (9); the value is then 0, and
+ * so is inexact. */
 millracer_root millracer_sqrt(double x);
 
 /* ---- helpers */

@@ -21,11 +21,15 @@ static int same(const double *x, const double *y, size_t n) { return memcmp(x, y
 
 static void values(void) {
   millracer_root root = millracer_sqrt(9);
-  EXPECT(is(root.refusal, 0, 0, 0) && root.value == 3);
+  EXPECT(is(root.refusal, 0, 0, 0) && root.value == 3 && root.inexact == 0);
+  root = millracer_sqrt(2);
+  EXPECT(is(root.refusal, 0, 0, 0) && root.value == 0x1.6a09e667f3bcdp0 && root.inexact == 1);
+  root = millracer_sqrt(-0.0);
+  EXPECT(is(root.refusal, 0, 0, 0) && signbit(root.value) && root.inexact == 0);
   root = millracer_sqrt(INFINITY);
-  EXPECT(is(root.refusal, MILLRACER_NOT_FINITE, 0, 0) && root.value == 0);
+  EXPECT(is(root.refusal, MILLRACER_NOT_FINITE, 0, 0) && root.value == 0 && root.inexact == 0);
   root = millracer_sqrt(-4);
-  EXPECT(is(root.refusal, MILLRACER_STORED_NOT_FINITE, 0, 0) && root.value == 0);
+  EXPECT(is(root.refusal, MILLRACER_STORED_NOT_FINITE, 0, 0) && root.value == 0 && root.inexact == 0);
 
   millracer_eigenvalues eigen = millracer_eigenvalues_2x2(2, 1, 1, 2);
   EXPECT(is(eigen.refusal, 0, 0, 0) && eigen.hi == 3 && eigen.lo == 1);
@@ -69,16 +73,40 @@ static void factorizations(void) {
   size_t p[2];
   const double a[] = {2, 2, 2, 4};
   millracer_factorization f = millracer_factor(MILLRACER_GMW81, a, 4, 2, l, 4, work, 4, e, 2, p, 2);
-  EXPECT(is(f.refusal, 0, 0, 0) && f.tied == MILLRACER_NO_STEP && f.phase2 == MILLRACER_NO_STEP);
+  EXPECT(is(f.refusal, 0, 0, 0) && f.tied == MILLRACER_NO_STEP && f.phase2 == MILLRACER_NO_STEP && f.inexact == 0);
   EXPECT(same(l, (double[]){2, 0, 1, 1}, 4) && same(work, (double[4]){0}, 4) && same(e, (double[2]){0}, 2));
   EXPECT(p[0] == 1 && p[1] == 0);
   f = millracer_factor(MILLRACER_SE90, (double[4]){0}, 4, 2, l, 4, work, 4, e, 2, p, 2);
   EXPECT(is(f.refusal, MILLRACER_STORED_NOT_FINITE, 0, 0) && f.tied == 0 && f.phase2 == MILLRACER_NO_STEP);
+  EXPECT(f.inexact == 0);
   EXPECT(same(l, (double[4]){0}, 4) && p[0] == 0 && p[1] == 1);
   f = millracer_factor(MILLRACER_SE99, (double[]){-4}, 1, 1, l, 1, work, 1, e, 1, p, 1);
-  EXPECT(is(f.refusal, 0, 0, 0) && f.phase2 == 0 && e[0] > 4);
+  EXPECT(is(f.refusal, 0, 0, 0) && f.phase2 == 0 && e[0] > 4 && f.inexact == 1);
   f = millracer_factor(4, a, 4, 2, l, 4, work, 4, e, 2, p, 2);
-  EXPECT(is(f.refusal, MILLRACER_UNKNOWN_METHOD, 0, 0));
+  EXPECT(is(f.refusal, MILLRACER_UNKNOWN_METHOD, 0, 0) && f.inexact == 0);
+  // the first root is inexact; the run is refused at step 1
+  f = millracer_factor(MILLRACER_SE90, (double[]){1e-200, 3e-200, 3e-200, 1e-200}, 4, 2, l, 4, work, 4, e, 2, p, 2);
+  EXPECT(is(f.refusal, MILLRACER_STORED_NOT_FINITE, 1, 0) && f.inexact == 0);
+}
+
+// How many roots of a diagonal matrix of two rows are inexact, in each method.
+static int inexact(double first, double second, size_t count) {
+  double l[4], work[4], e[2];
+  size_t p[2];
+  int all = 1;
+  for (size_t method = MILLRACER_GMW81; method <= MILLRACER_SE99; method++) {
+    const double a[] = {first, 0, 0, second};
+    millracer_factorization f = millracer_factor(method, a, 4, 2, l, 4, work, 4, e, 2, p, 2);
+    all = all && is(f.refusal, 0, 0, 0) && f.inexact == count;
+  }
+  return all;
+}
+
+static void inexact_roots(void) {
+  EXPECT(inexact(4, 1, 0));
+  EXPECT(inexact(4, 3, 1));
+  EXPECT(inexact(2, 9, 1));
+  EXPECT(inexact(2, 3, 2));
 }
 
 static const double tied[] = {1, 0, 0, 0, 1, 0, 0, 0, 3};
@@ -90,7 +118,7 @@ static millracer_refusal refused_numbers(const uint32_t *numbers, size_t numbers
   memset(l, 7, sizeof l), memset(work, 7, sizeof work), memset(e, 7, sizeof e), memset(p, 7, sizeof p);
   millracer_factorization f =
       millracer_factor_numbered(MILLRACER_SE99, tied, 9, 3, numbers, numbers_len, l, 9, work, 9, e, e_len, p, 3);
-  EXPECT(f.tied == MILLRACER_NO_STEP && f.phase2 == MILLRACER_NO_STEP);
+  EXPECT(f.tied == MILLRACER_NO_STEP && f.phase2 == MILLRACER_NO_STEP && f.inexact == 0);
   EXPECT(memcmp(l, work, sizeof l) == 0 && memcmp(e, l, sizeof e) == 0 && memcmp(p, l, sizeof p) == 0);
   const uint8_t *bytes = (const uint8_t *)l;
   EXPECT(bytes[0] == 7 && memcmp(bytes, bytes + 1, sizeof l - 1) == 0);
@@ -104,7 +132,7 @@ static int settled(const uint32_t *numbers, size_t first, size_t second) {
     double l[9], work[9], e[3];
     size_t p[3];
     millracer_factorization f = millracer_factor_numbered(method, tied, 9, 3, numbers, 3, l, 9, work, 9, e, 3, p, 3);
-    all = all && is(f.refusal, 0, 0, 0) && f.tied == 1 && f.phase2 == MILLRACER_NO_STEP;
+    all = all && is(f.refusal, 0, 0, 0) && f.tied == 1 && f.phase2 == MILLRACER_NO_STEP && f.inexact == 1;
     all = all && p[0] == 2 && p[1] == first && p[2] == second && l[4] == 1 && l[8] == 1 && work[8] == 0;
   }
   return all;
@@ -229,7 +257,7 @@ static void lengths_in_bytes(void) {
     millracer_factorization f = millracer_factor_bytes(MILLRACER_SE90, a, a_lens[i], 2, l, l_lens[i], work,
                                                        work_lens[i], e, e_lens[i], p, p_lens[i]);
     EXPECT(is(f.refusal, i == 0 ? MILLRACER_MATRIX_LENGTH : MILLRACER_BUFFER_LENGTH, 0, 0));
-    EXPECT(f.tied == MILLRACER_NO_STEP && f.phase2 == MILLRACER_NO_STEP);
+    EXPECT(f.tied == MILLRACER_NO_STEP && f.phase2 == MILLRACER_NO_STEP && f.inexact == 0);
   }
   EXPECT(l[0] == 7 && memcmp(l, l + 1, 31) == 0 && work[0] == 7 && memcmp(work, work + 1, 31) == 0);
   EXPECT(e[0] == 7 && memcmp(e, e + 1, 15) == 0 && p[0] == 7 && p[1] == 7);
@@ -256,7 +284,8 @@ static void records(void) {
     EXPECT(is(w.refusal, MILLRACER_BUFFER_LENGTH, 0, 0) && w.length == 0 && answer[0] == 7);
   }
   w = millracer_record(sound, sizeof sound, answer, MILLRACER_LONGEST_ANSWER);
-  EXPECT(is(w.refusal, 0, 0, 0) && w.length == 38 && answer[w.length] == 0);
+  EXPECT(is(w.refusal, 0, 0, 0) && w.length == 42 && answer[w.length] == 0);
+  EXPECT(memcmp(answer + 12, (uint8_t[]){0x18, 1, 0, 0}, 4) == 0);
   w = millracer_record(record, sizeof record, answer, MILLRACER_LONGEST_ANSWER);
   EXPECT(is(w.refusal, MILLRACER_UNKNOWN_METHOD, 0, 0) && w.length == sizeof refused);
   EXPECT(memcmp(answer, refused, sizeof refused) == 0);
@@ -306,9 +335,9 @@ static void broken_records(void) {
 static void numbered_records(void) {
   static uint8_t answer[MILLRACER_LONGEST_ANSWER], other[MILLRACER_LONGEST_ANSWER];
   const uint8_t sound[] = {1, 1, 0, 1, 2, 1, 0, 1, 4, 4, 0, 7, 0, 0, 0, 3, 8, 0, 0, 0, 0, 0, 0, 0, 0x10, 0x40};
-  EXPECT(millracer_record(sound, sizeof sound, answer, sizeof answer).length == 38);
-  EXPECT(millracer_record(small, sizeof small, other, sizeof other).length == 38);
-  EXPECT(memcmp(answer, other, 38) == 0);
+  EXPECT(millracer_record(sound, sizeof sound, answer, sizeof answer).length == 42);
+  EXPECT(millracer_record(small, sizeof small, other, sizeof other).length == 42);
+  EXPECT(memcmp(answer, other, 42) == 0);
   const size_t starts[] = {0, 4, 8, 15, sizeof sound};
   uint8_t record[sizeof sound];
   for (size_t field = 0; field < 4; field++) {
@@ -356,6 +385,7 @@ int main(void) {
   values();
   matrices();
   factorizations();
+  inexact_roots();
   numbers();
   numbers_in_bytes();
   solutions();

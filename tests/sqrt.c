@@ -1,4 +1,5 @@
-// Compares the proved root with the machine's own, bit for bit, and its refusals with the operand.
+// Compares the proved root with the machine's own, bit for bit, its refusals with the operand, and whether it is
+// inexact with the exact square of the machine's root.
 // sqrt MILLIONS [SEED]
 #include <math.h>
 #include <stdint.h>
@@ -29,24 +30,49 @@ static uint64_t to_bits(double x) {
   return b;
 }
 
-static uint64_t compared, different;
+static uint64_t compared, different, exact, inexact;
+
+// The whole number that x, above zero, is of 2^exponent.
+static uint64_t whole_number(double x, int *exponent) {
+  uint64_t fraction = to_bits(x) & 0xfffffffffffffu, biased = to_bits(x) >> 52;
+  *exponent = biased == 0 ? -1074 : (int)biased - 1075;
+  return biased == 0 ? fraction : fraction | (uint64_t)1 << 52;
+}
+
+// Whether x is the square of its root r, both above zero, in whole numbers. r has 53 digits, so its square has 105 or
+// 106, and x has as many once both are of the same power of two.
+static int is_square(double x, double r) {
+  int of_x, of_r;
+  unsigned __int128 operand = whole_number(x, &of_x), root = whole_number(r, &of_r);
+  return operand << (of_x - 2 * of_r) == root * root;
+}
 
 static millracer_root machine(double x) {
   // volatile: the machine's root, and not one folded by the compiler
   volatile double operand = x;
-  if (!isfinite(x)) return (millracer_root){{MILLRACER_NOT_FINITE, 0, 0}, 0};
-  if (x < 0) return (millracer_root){{MILLRACER_STORED_NOT_FINITE, 0, 0}, 0};
-  return (millracer_root){{MILLRACER_COMPLETE, 0, 0}, sqrt(operand)};
+  if (!isfinite(x)) return (millracer_root){{MILLRACER_NOT_FINITE, 0, 0}, 0, 0};
+  if (x < 0) return (millracer_root){{MILLRACER_STORED_NOT_FINITE, 0, 0}, 0, 0};
+  double r = sqrt(operand);
+  return (millracer_root){{MILLRACER_COMPLETE, 0, 0}, r, x != 0 && !is_square(x, r)};
+}
+
+static void print(const char *name, millracer_root root) {
+  printf("%s %zu %016llx %zu", name, root.refusal.number, (unsigned long long)to_bits(root.value), root.inexact);
 }
 
 static void compare(double x) {
   millracer_root expected = machine(x), got = millracer_sqrt(x);
   compared++;
+  if (expected.inexact)
+    inexact++;
+  else if (expected.refusal.number == MILLRACER_COMPLETE)
+    exact++;
   if (memcmp(&expected, &got, sizeof got) == 0) return;
-  if (different++ < 10)
-    printf("operand %016llx: expected %zu %016llx, got %zu %016llx\n", (unsigned long long)to_bits(x),
-           expected.refusal.number, (unsigned long long)to_bits(expected.value), got.refusal.number,
-           (unsigned long long)to_bits(got.value));
+  if (different++ < 10) {
+    printf("operand %016llx: ", (unsigned long long)to_bits(x));
+    print("expected", expected), print(", got", got);
+    printf("\n");
+  }
 }
 
 // The pattern and the two on each side of it.
@@ -76,6 +102,15 @@ static void fixed(void) {
   }
 }
 
+// The square of a number of 1 to 26 digits, at every scale down to 2^-1074: it is a double, and its root is exact.
+static void compare_square(void) {
+  int digits = 1 + (int)(draw() % 26);
+  double m = (double)(draw() >> (64 - digits) | (uint64_t)1 << (digits - 1));
+  double r = ldexp(m, (int)(draw() % (uint64_t)(537 + 512 - digits)) - 537);
+  if (machine(r * r).inexact && different++ < 10) printf("%a is taken for no square\n", r * r);
+  compare_around(r * r);
+}
+
 int main(int argc, char **argv) {
   uint64_t wanted = (argc > 1 ? strtoull(argv[1], 0, 10) : 10) * 1000000;
   state = argc > 2 ? strtoull(argv[2], 0, 10) : 1;
@@ -87,13 +122,16 @@ int main(int argc, char **argv) {
     compare(of_bits(draw() >> 1));
     // subnormal, of every length
     compare(of_bits((draw() & 0xfffffffffffffu) >> (draw() % 52)));
-    // next to the square of a number of 26 digits, at every scale
+    compare_square();
+    // next to the square of a number of 26 digits, rounded where it is subnormal
     double r = ldexp((double)((draw() & 0x3ffffff) | 0x2000000), (int)(draw() % 1020) - 540);
     compare_around(r * r);
     // next to the rounded square of any number
     double w = of_bits((draw() & 0xfffffffffffffu) | (uint64_t)(512 + draw() % 1022) << 52);
     compare_around(w * w);
   }
-  printf("sqrt: %llu compared, %llu different\n", (unsigned long long)compared, (unsigned long long)different);
+  printf("sqrt: %llu compared, %llu different; %llu roots exact, %llu inexact, the rest refused\n",
+         (unsigned long long)compared, (unsigned long long)different, (unsigned long long)exact,
+         (unsigned long long)inexact);
   return different != 0;
 }

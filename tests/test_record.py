@@ -36,7 +36,7 @@ sys.path.insert(0, TOOLS)
 record = load_program()
 
 MATRIX_EXAMPLE = bytes.fromhex("01 01 00 01  02 01 00 01  03 08 00 00 00 00 00 00 00 10 40")
-ANSWER_EXAMPLE = bytes.fromhex("11 01 00 00  12 01 00 FF  13 01 00 FF  14 01 00 00"
+ANSWER_EXAMPLE = bytes.fromhex("11 01 00 00  12 01 00 FF  13 01 00 FF  18 01 00 00  14 01 00 00"
                                "15 08 00 00 00 00 00 00 00 00 00  16 08 00 00 00 00 00 00 00 00 40")
 
 
@@ -62,9 +62,10 @@ def doubles(values):
     return struct.pack(f"<{len(values)}d", *values)
 
 
-def complete(p, e, entries, tied=NONE, phase_two=NONE):
+def complete(p, e, entries, tied=NONE, phase_two=NONE, inexact=0):
     return (field(0x11, b"\0") + field(0x12, bytes([tied])) + field(0x13, bytes([phase_two]))
-            + field(0x14, bytes(p)) + field(0x15, doubles(e)) + field(0x16, doubles(entries)))
+            + field(0x18, bytes([inexact])) + field(0x14, bytes(p)) + field(0x15, doubles(e))
+            + field(0x16, doubles(entries)))
 
 
 def refused(number, row=0, column=0, tied=NONE, phase_two=NONE):
@@ -224,7 +225,8 @@ class Write(Case):
 class Show(Case):
     def test_example(self):
         self.assertEqual(self.shown(ANSWER_EXAMPLE), [
-            "complete", "no pivot search was tied", "no phase two", "pivot order: 0",
+            "complete", "no pivot search was tied", "no phase two", "inexact (rounded) diagonal roots: 0 of 1",
+            "pivot order: 0",
             "amount added for each row:", "  0  0.0", "L, its rows in pivot order:", "  0  2.0"])
         self.assertEqual(complete([0], [0.0], [2.0]), ANSWER_EXAMPLE)
 
@@ -250,16 +252,38 @@ class Show(Case):
                              [f"refused: 11, field {field_index} has a wrong tag, {due} was due"])
 
     def test_steps(self):
-        lines = self.shown(complete([1, 0], [0.5, 0.0], [1.0, 0.0, -2.5, 3.0], 0, 1))
-        self.assertEqual(lines[1:4], [f"first tied at step 0: {UNKNOWN}", "phase two from step 1",
-                                      "pivot order: 1, 0"])
-        self.assertEqual(lines[4:], ["amount added for each row:", "  0  0.5", "  1  0.0",
+        lines = self.shown(complete([1, 0], [0.5, 0.0], [1.0, 0.0, -2.5, 3.0], 0, 1, 2))
+        self.assertEqual(lines[1:5], [f"first tied at step 0: {UNKNOWN}", "phase two from step 1",
+                                      "inexact (rounded) diagonal roots: 2 of 2", "pivot order: 1, 0"])
+        self.assertEqual(lines[5:], ["amount added for each row:", "  0  0.5", "  1  0.0",
                                      "L, its rows in pivot order:", "  1   1.0  0.0", "  0  -2.5  3.0"])
+
+    def test_inexact_roots(self):
+        for n in (1, 2, 48):
+            for inexact in range(n + 1):
+                answer = complete(range(n), [0.0] * n, [0.0] * n * n, inexact=inexact)
+                self.assertEqual(self.shown(answer)[3], f"inexact (rounded) diagonal roots: {inexact} of {n}")
+            for inexact in (n + 1, 255):
+                answer = complete(range(n), [0.0] * n, [0.0] * n * n, inexact=inexact)
+                self.assert_mistake(run("show", source=answer),
+                                    f"not an answer record: {inexact} inexact diagonal roots, but there are {n}")
+        self.assertEqual(len(answer), 18889)
+
+    def test_answers_without_field_18(self):
+        without = ANSWER_EXAMPLE[:12] + ANSWER_EXAMPLE[16:]
+        self.assert_mistake(run("show", source=without),
+                            "field 18, the number of inexact diagonal roots, is missing after field 13")
+        moved = ANSWER_EXAMPLE[:12] + ANSWER_EXAMPLE[16:20] + ANSWER_EXAMPLE[12:16] + ANSWER_EXAMPLE[20:]
+        self.assert_mistake(run("show", source=moved), "fields 11 12 13 14 18 15 16 instead of")
+        long = ANSWER_EXAMPLE[:12] + field(0x18, b"\0\0") + ANSWER_EXAMPLE[16:]
+        self.assert_mistake(run("show", source=long), "field 18 has length 2 instead of 1")
+        beside = refused(9)[:12] + field(0x18, b"\0") + refused(9)[12:]
+        self.assert_mistake(run("show", source=beside), "fields 11 12 13 18 17 instead of")
 
     def test_names(self):
         names = self.file(";wheat Dec;maïs\nwheat Dec;1;2\nmaïs;2;3")
         lines = self.shown(complete([1, 0], [0.5, 0.0], [1.0, 0.0, 2.0, 3.0]), "--names", names)
-        self.assertEqual(lines[3:], [
+        self.assertEqual(lines[4:], [
             "pivot order: maïs, wheat Dec", "amount added for each row:", "  wheat Dec  0.5", "  maïs       0.0",
             "L, its rows in pivot order:", "  maïs       1.0  0.0", "  wheat Dec  2.0  3.0"])
         self.assertEqual(self.shown(refused(8, 0, 1), "--names", names),
@@ -274,7 +298,7 @@ class Show(Case):
 
     def test_digits(self):
         answer = complete([0], [1 / 3], [2 / 3])
-        self.assertEqual(self.shown(answer, "--digits", "3")[5::2], ["  0  0.333", "  0  0.667"])
+        self.assertEqual(self.shown(answer, "--digits", "3")[6::2], ["  0  0.333", "  0  0.667"])
         self.assert_mistake(run("show", "--digits", "0", source=answer), "--digits")
 
     def test_random_doubles(self):
@@ -283,8 +307,8 @@ class Show(Case):
             p = source.sample(range(n), n)
             e, entries = ([random_double(source) for _ in range(k)] for k in (n, n * n))
             lines = self.shown(complete(p, e, entries))
-            amounts = [line.split() for line in lines[5:5 + n]]
-            factor = [line.split() for line in lines[6 + n:]]
+            amounts = [line.split() for line in lines[6:6 + n]]
+            factor = [line.split() for line in lines[7 + n:]]
             self.assertEqual([int(row[0]) for row in factor], p)
             self.assertEqual(doubles([float(row[1]) for row in amounts]), doubles(e))
             self.assertEqual(doubles([float(cell) for row in factor for cell in row[1:]]), doubles(entries))
@@ -300,7 +324,7 @@ class Show(Case):
         for answer, words in (
                 (b"", "the input is empty"),
                 (MATRIX_EXAMPLE, "fields 01 02 03 instead of"),
-                (good + field(0x17, b"\0\0"), "instead of 11 12 13 14 15 16"),
+                (good + field(0x17, b"\0\0"), "instead of 11 12 13 18 14 15 16"),
                 (b"\0" + good[1:], "fields 00 12"),
                 (complete([], [], []), "field 14 has length 0"),
                 (complete(range(49), [0.0] * 49, [0.0] * 49 ** 2), "field 14 has length 49"),

@@ -1,4 +1,4 @@
-"""Answer records (document 01, 'Matrix, answer and record') in words, for tools/record."""
+"""Answer records (documents 01, 'Matrix, answer and record', and 02, N5) in words, for tools/record."""
 import struct
 from typing import List, NamedTuple, Tuple
 
@@ -6,7 +6,7 @@ from matrix_file import LARGEST_N, Mistake
 from matrix_record import FIELDS_DUE, tag_words
 
 NO_STEP = 0xFF
-COMPLETE_TAGS = [0x11, 0x12, 0x13, 0x14, 0x15, 0x16]
+COMPLETE_TAGS = [0x11, 0x12, 0x13, 0x18, 0x14, 0x15, 0x16]
 REFUSED_TAGS = [0x11, 0x12, 0x13, 0x17]
 REFUSALS = {
     1: "the record is too long, or n or method is not one byte long, or bytes follow the last field",
@@ -24,10 +24,11 @@ LAST_REFUSAL = 13
 
 
 class Answer(NamedTuple):
-    """An answer record; p, e and L are empty in a refusal."""
+    """An answer record; inexact is the number of inexact diagonal roots, 0 in a refusal; p, e and L are then empty."""
     refusal: int
     tied: int
     phase_two: int
+    inexact: int
     place: Tuple[int, int]
     p: List[int]
     e: List[float]
@@ -68,19 +69,22 @@ def to_values(content):
 
 
 def complete_answer(contents):
-    n = len(contents[3])
+    order, amounts, factor = contents[4:]
+    n = len(order)
     if not 1 <= n <= LARGEST_N:
         raise Mistake(f"field 14 has length {n}")
-    check_lengths(COMPLETE_TAGS, contents, [1, 1, 1, n, 8 * n, 8 * n * n])
-    refusal, tied, phase_two = (content[0] for content in contents[:3])
-    p, entries = list(contents[3]), to_values(contents[5])
+    check_lengths(COMPLETE_TAGS, contents, [1, 1, 1, 1, n, 8 * n, 8 * n * n])
+    refusal, tied, phase_two, inexact = (content[0] for content in contents[:4])
+    p, entries = list(order), to_values(factor)
     if refusal != 0:
         raise Mistake(f"refusal {refusal} without a place")
     check_steps(tied, phase_two, n)
+    if inexact > n:
+        raise Mistake(f"{inexact} inexact diagonal roots, but there are {n} diagonal roots")
     if sorted(p) != list(range(n)):
         raise Mistake("the pivot order has not each row once")
     rows = [entries[k:k + n] for k in range(0, n * n, n)]
-    return Answer(0, tied, phase_two, (0, 0), p, to_values(contents[4]), rows)
+    return Answer(0, tied, phase_two, inexact, (0, 0), p, to_values(amounts), rows)
 
 
 def is_place(refusal, row, column):
@@ -109,7 +113,7 @@ def refused_answer(contents):
     if not is_place(refusal, row, column):
         raise Mistake(f"refusal {refusal} cannot be at {row}, {column}")
     check_steps(tied, phase_two, LARGEST_N if refusal == 9 else 0)
-    return Answer(refusal, tied, phase_two, (row, column), [], [], [])
+    return Answer(refusal, tied, phase_two, 0, (row, column), [], [], [])
 
 
 def parse_answer(record):
@@ -120,8 +124,10 @@ def parse_answer(record):
         return complete_answer(contents)
     if tags == REFUSED_TAGS:
         return refused_answer(contents)
+    if tags == [tag for tag in COMPLETE_TAGS if tag != 0x18]:
+        raise Mistake("field 18, the number of inexact diagonal roots, is missing after field 13")
     found = " ".join(f"{tag:02X}" for tag in tags)
-    raise Mistake(f"fields {found} instead of 11 12 13 14 15 16 or 11 12 13 17")
+    raise Mistake(f"fields {found} instead of 11 12 13 18 14 15 16 or 11 12 13 17")
 
 
 def read_answer(record):
@@ -165,6 +171,10 @@ def phase_two_words(step):
     return "no phase two" if step == NO_STEP else f"phase two from step {step}"
 
 
+def roots_words(answer):
+    return f"inexact (rounded) diagonal roots: {answer.inexact} of {len(answer.p)}"
+
+
 def table(rows):
     """Lines with the first cell of each row to the left and the others to the right."""
     first, *others = [max(map(len, column)) for column in zip(*rows)]
@@ -185,6 +195,6 @@ def answer_lines(answer, labels, number_words, fault=None, numbered=None):
     pivots = [labels[row] for row in answer.p]
     amounts = [[labels[row], number_words(amount)] for row, amount in enumerate(answer.e)]
     factor = [[pivot] + [number_words(entry) for entry in row] for pivot, row in zip(pivots, answer.L)]
-    return (["complete"] + steps + ["pivot order: " + ", ".join(pivots)]
+    return (["complete"] + steps + [roots_words(answer), "pivot order: " + ", ".join(pivots)]
             + ["amount added for each row:"] + table(amounts)
             + ["L, its rows in pivot order:"] + table(factor))

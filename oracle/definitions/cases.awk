@@ -21,9 +21,9 @@ function list(from, to, sign,   i, out) {
 
 function factored(   n, a, p) {
     n = $2
-    a = 8 + $7
+    a = 9 + $8
     p = a + n * n
-    return method[$1] " (" list(8, a - 1, "") "[]) " n " (" list(a, p - 1, "0x") "[]) ≡ " $5 " ∷ " $6 " ∷ " $3 " ∷ " $4 " ∷ " list(p, p + n - 1, "") list(p + n, NF, "0x") "[]"
+    return method[$1] " (" list(9, a - 1, "") "[]) " n " (" list(a, p - 1, "0x") "[]) ≡ " $5 " ∷ " $6 " ∷ " $3 " ∷ " $4 " ∷ " $7 " ∷ " list(p, p + n - 1, "") list(p + n, NF, "0x") "[]"
 }
 
 function solved(   p, b, y, answer) {

@@ -19,9 +19,10 @@ struct Listed {
     cut: Option<(&'static str, usize)>,
     /// How often `.max(`, `.min(`, `.powi(2)` and `.cbrt()` stand in the file.
     calls: [usize; 4],
-    /// How often `.sqrt()`, `.sum()` and `.dot(` do. They stay.
+    /// How often `.sqrt()`, `.sum()` and `.dot(` do. They stay, but for the roots on the diagonal.
     kept: [usize; 3],
-    /// Tells the watch of steps, of the end of phase one and of values in plain variables.
+    /// Tells the watch of steps, of the end of phase one, of values in plain variables and of the roots on the
+    /// diagonal, which it takes itself.
     watched: &'static [Substitution],
 }
 
@@ -46,6 +47,18 @@ const LAST_BLOCK: Substitution = (
     "watch::step(n - 2); let (lhi, llo) =",
     1,
 );
+const BLOCK_FIRST_ROOT: Substitution = (
+    "l[(n - 2, n - 2)].sqrt()",
+    "watch::root(l[(n - 2, n - 2)])",
+    1,
+);
+const BLOCK_SECOND_ROOT: Substitution = (
+    "(l[(n - 1, n - 1)] - l[(n - 1, n - 2)].standin_square()).sqrt()",
+    "watch::root(l[(n - 1, n - 1)] - l[(n - 1, n - 2)].standin_square())",
+    1,
+);
+const ROOT: &str = "l[(j, j)].sqrt()";
+const ROOT_WATCHED: &str = "watch::root(l[(j, j)])";
 const LEAVE: &str = "phaseone = false;";
 const LEAVE_WATCHED: &str = "phaseone = false; watch::phase_two(j);";
 
@@ -67,6 +80,8 @@ const FILES: [Listed; 6] = [
             HELPERS,
             ("for j in 0..n {", "for j in 0..n { watch::step(j);", 1),
             ("let mut dout =", "watch::step(n); let mut dout =", 1),
+            // Of d; beta's two don't count.
+            ("x.sqrt()", "watch::root(*x)", 1),
         ],
         ..UNCHANGED
     },
@@ -81,6 +96,9 @@ const FILES: [Listed; 6] = [
             PHASE_TWO,
             NORM,
             LAST_BLOCK,
+            (ROOT, ROOT_WATCHED, 2),
+            BLOCK_FIRST_ROOT,
+            BLOCK_SECOND_ROOT,
         ],
         ..UNCHANGED
     },
@@ -95,6 +113,9 @@ const FILES: [Listed; 6] = [
             PHASE_TWO,
             NORM,
             LAST_BLOCK,
+            (ROOT, ROOT_WATCHED, 3),
+            BLOCK_FIRST_ROOT,
+            BLOCK_SECOND_ROOT,
         ],
         ..UNCHANGED
     },

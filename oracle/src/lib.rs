@@ -6,6 +6,7 @@ pub mod numbered;
 pub mod operands;
 pub mod record;
 pub mod replay;
+pub mod roots;
 pub mod second;
 pub mod systems;
 pub mod table;
@@ -13,6 +14,7 @@ pub mod table;
 use modcholesky::{Decomposition, ModCholeskyGMW81, ModCholeskySE90, ModCholeskySE99};
 use ndarray::{Array1, Array2};
 use std::panic::catch_unwind;
+pub use watch::is_inexact;
 
 pub const GMW81: u8 = 1;
 pub const SE90: u8 = 2;
@@ -30,6 +32,8 @@ pub struct Answer {
     pub step: usize,
     pub tied: Option<usize>,
     pub phase_two: Option<usize>,
+    /// How many of the n roots on the diagonal rounding changed; 0 beside a refusal.
+    pub inexact: usize,
     pub l: Vec<f64>,
     pub e: Vec<f64>,
     pub p: Vec<usize>,
@@ -58,6 +62,7 @@ pub fn factor(method: u8, n: usize, a: &[f64]) -> Answer {
         step,
         tied: marks.tied,
         phase_two: marks.phase_two,
+        inexact: marks.inexact,
         l,
         e,
         p,

@@ -136,6 +136,13 @@ fn finite(sort: usize, rng: &mut Rng) -> f64 {
     }
 }
 
+/// The square of a number of up to 26 binary digits, at every scale down to 2^-1074: its root is exact.
+pub fn square(rng: &mut Rng) -> f64 {
+    let number = rng.bits() >> (38 + rng.below(26));
+    let root = number as f64 * 2f64.powi(rng.whole(-537, 485));
+    root * root
+}
+
 /// Infinities and NaNs, of either sign and any payload.
 pub fn not_finite(rng: &mut Rng) -> f64 {
     let (sign, any) = (rng.bits() & 1 << 63, rng.bits() >> 12);

@@ -86,10 +86,20 @@ pub fn reply(record: &[u8]) -> Reply {
 fn run(input: &Input) -> Reply {
     let (n, matrix) = (usize::from(input.n), &input.matrix);
     let answer = match &input.numbers {
-        None => factor(input.method, n, matrix),
+        None => asked(input.method, n, matrix),
         Some(numbers) => second::factor(input.method, n, matrix, Some(numbers)),
     };
     replied((input.method, input.n), answer)
+}
+
+/// The Rust's answer. How many roots are inexact the second implementation says too, and must agree.
+fn asked(method: u8, n: usize, matrix: &[f64]) -> Answer {
+    let answer = factor(method, n, matrix);
+    if answer.refusal == COMPLETE {
+        let second = second::factor(method, n, matrix, None);
+        assert_eq!(answer.inexact, second.inexact, "inexact roots");
+    }
+    answer
 }
 
 /// What is answered where a run comes to `answer`.
@@ -117,6 +127,11 @@ impl Reply {
         self.outcome.as_ref().err().map_or(COMPLETE, |r| r.number)
     }
 
+    /// How many roots on the diagonal are; 0 beside a refusal.
+    pub fn inexact(&self) -> usize {
+        self.outcome.as_ref().map_or(0, |answer| answer.inexact)
+    }
+
     pub fn record(&self) -> Vec<u8> {
         let mark = |step: Option<usize>| step.map_or(NONE, byte);
         let mut out = [
@@ -126,16 +141,18 @@ impl Reply {
         ]
         .concat();
         match &self.outcome {
-            Ok(answer) => out.extend(factors(answer)),
+            Ok(answer) => out.extend(complete(answer)),
             Err(refusal) => out.extend(field(0x17, &refusal.place)),
         }
         out
     }
 }
 
-fn factors(answer: &Answer) -> Vec<u8> {
+/// What a complete answer has after its marks.
+fn complete(answer: &Answer) -> Vec<u8> {
     let p: Vec<u8> = answer.p.iter().map(|&row| byte(row)).collect();
     [
+        field(0x18, &[byte(answer.inexact)]),
         field(0x14, &p),
         field(0x15, &bytes(&answer.e)),
         field(0x16, &bytes(&answer.l)),
@@ -144,5 +161,5 @@ fn factors(answer: &Answer) -> Vec<u8> {
 }
 
 fn byte(step: usize) -> u8 {
-    u8::try_from(step).expect("rows and steps are below 48, or 48")
+    u8::try_from(step).expect("rows, steps and counts are below 48, or 48")
 }

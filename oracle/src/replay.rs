@@ -7,6 +7,7 @@ mod generated;
 mod hand;
 mod numbered;
 mod phase_one;
+mod roots;
 mod shape;
 mod sides;
 mod steps;
@@ -49,6 +50,7 @@ fn of_kind(name: &str, records: Vec<Vec<u8>>) -> Vec<Entry> {
 pub fn list() -> Vec<Entry> {
     [
         hand::all(),
+        roots::all(),
         fields::all(),
         shape::all(),
         entries::all(),

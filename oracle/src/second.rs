@@ -16,7 +16,8 @@ mod words;
 use crate::{fillings, is_accepted, Answer, COMPLETE, GMW81, NOT_FINITE, SE90, SE99};
 pub use run::{Judged, Ties};
 use run::{NotFinite, Run};
-use words::{largest_magnitude, MU, TAU, TAU_BAR};
+pub use words::TAU;
+use words::{largest_magnitude, MU, TAU_BAR};
 
 /// Factors a matrix that passes checks 2 to 8, and 12 and 13 where it has numbers.
 pub fn factor(method: u8, n: usize, a: &[f64], numbers: Option<&[u32]>) -> Answer {
@@ -74,15 +75,16 @@ fn schnabel_eskow(run: &mut Run, v: Variant) -> Result<(), NotFinite> {
 }
 
 fn answer(run: &Run, outcome: Result<(), NotFinite>) -> Answer {
-    let (refusal, step, (l, e, p)) = match outcome {
-        Ok(()) => (COMPLETE, 0, run.factors()),
-        Err(NotFinite) => (NOT_FINITE, run.step, fillings(run.n)),
+    let (refusal, step, inexact, (l, e, p)) = match outcome {
+        Ok(()) => (COMPLETE, 0, run.inexact, run.factors()),
+        Err(NotFinite) => (NOT_FINITE, run.step, 0, fillings(run.n)),
     };
     Answer {
         refusal,
         step,
         tied: run.tied,
         phase_two: run.phase_two,
+        inexact,
         l,
         e,
         p,

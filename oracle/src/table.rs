@@ -12,10 +12,12 @@ pub struct Run {
     pub refused: Option<usize>,
     pub tied: Option<usize>,
     pub phase_two: Option<usize>,
+    /// Of a complete run.
+    pub inexact: Option<usize>,
 }
 
-/// Prints, for each method, how many runs were complete (by n), refused, tied and in phase two (by
-/// step), on standard error.
+/// Prints, for each method, how many runs were complete (by n, and by inexact roots), refused, tied and in
+/// phase two (by step), on standard error.
 pub fn report(runs: &[Run]) {
     for (index, name) in NAMES.iter().enumerate() {
         let own: Vec<&Run> = runs
@@ -24,6 +26,7 @@ pub fn report(runs: &[Run]) {
             .collect();
         let complete = |run: &Run| run.refused.is_none().then_some(run.n);
         line(name, "complete, by n", &own, complete);
+        line(name, "by inexact roots", &own, |run| run.inexact);
         line(name, "phase two at step", &own, |run| run.phase_two);
         line(name, "refused at step", &own, |run| run.refused);
         line(name, "tied at step", &own, |run| run.tied);

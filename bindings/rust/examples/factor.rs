@@ -24,6 +24,7 @@ fn factor(a: &[f64], b: &[f64]) {
             println!("p {} {} {}", d.p[0], d.p[1], d.p[2]);
             println!("tied step {}", step(d.tied));
             println!("phase-two step {}", step(d.phase2));
+            println!("{} of {N} roots inexact", d.inexact);
             match d.solve(b) {
                 Ok(y) => println!("y{}", row(&y)),
                 Err(refusal) => println!("{}", number_and_place(refusal)),

@@ -22,6 +22,9 @@ pub struct Decomposition {
     pub tied: Option<usize>,
     /// The step at which SE90 or SE99 left phase one.
     pub phase2: Option<usize>,
+    /// How many of the n roots on the diagonal rounding changed. Beta's in GMW81 and the eigenvalues' in SE90 and
+    /// SE99 don't count.
+    pub inexact: usize,
 }
 
 /// How a factorization on lent buffers ended. Refusal 9 keeps the steps found so far.
@@ -30,6 +33,8 @@ pub struct Ended {
     pub outcome: Result<(), Refusal>,
     pub tied: Option<usize>,
     pub phase2: Option<usize>,
+    /// As in [`Decomposition`]; 0 beside a refusal.
+    pub inexact: usize,
 }
 
 fn step(number: usize) -> Option<usize> {
@@ -41,6 +46,7 @@ fn ended_run(answer: ffi::Factorization) -> Ended {
         outcome: ended(answer.refusal),
         tied: step(answer.tied),
         phase2: step(answer.phase2),
+        inexact: answer.inexact,
     }
 }
 
@@ -132,6 +138,7 @@ fn decompose(
         p,
         tied: run.tied,
         phase2: run.phase2,
+        inexact: run.inexact,
     })
 }
 

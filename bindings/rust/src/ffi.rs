@@ -13,6 +13,7 @@ pub struct Factorization {
     pub refusal: Refusal,
     pub tied: usize,
     pub phase2: usize,
+    pub inexact: usize,
 }
 
 #[repr(C)]
@@ -25,6 +26,7 @@ pub struct Written {
 pub struct Root {
     pub refusal: Refusal,
     pub value: f64,
+    pub inexact: usize,
 }
 
 #[repr(C)]

@@ -8,6 +8,7 @@
 //! let d = millracer::mod_cholesky_gmw81(&[4.0, 2.0, 2.0, 2.0], 2)?;
 //! assert_eq!(d.l, [2.0, 0.0, 1.0, 1.0]);
 //! assert_eq!((d.e, d.p), (vec![0.0, 0.0], vec![0, 1]));
+//! assert_eq!(d.inexact, 0);
 //! # Ok::<(), millracer::Refusal>(())
 //! ```
 
@@ -29,7 +30,7 @@ pub use helpers::{
 };
 pub use record::{record, record_answer, RecordAnswer};
 pub use refusal::Refusal;
-pub use root::sqrt;
+pub use root::{sqrt, Root};
 pub use solve::solve;
 
 /// The largest n of a matrix.

@@ -2,7 +2,7 @@ use crate::ffi;
 use crate::refusal::{ended, Refusal};
 
 /// The bytes of the longest answer record.
-const LONGEST_ANSWER: usize = 18885;
+const LONGEST_ANSWER: usize = 18889;
 
 /// An answer record, and the refusal that it tells of.
 #[derive(Clone, Debug, PartialEq, Eq)]

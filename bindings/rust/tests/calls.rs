@@ -6,9 +6,22 @@ const INFINITY: f64 = f64::INFINITY;
 
 #[test]
 fn root() {
-    assert_eq!(sqrt(2.0), Ok(2f64.sqrt()));
-    assert_eq!(sqrt(-0.0).map(f64::to_bits), Ok((-0.0f64).to_bits()));
-    assert_eq!(sqrt(f64::from_bits(1)), Ok(2f64.powi(-537)));
+    let is = |value: f64, inexact: bool| Ok(Root { value, inexact });
+    assert_eq!(sqrt(2.0), is(2f64.sqrt(), true));
+    assert_eq!(sqrt(0.25), is(0.5, false));
+    for zero in [0.0, -0.0] {
+        let root = sqrt(zero).unwrap();
+        assert_eq!(root.value.to_bits(), zero.to_bits());
+        assert!(!root.inexact);
+    }
+    assert_eq!(sqrt(f64::from_bits(1)), is(2f64.powi(-537), false));
+    assert_eq!(sqrt(f64::from_bits(2)), is(f64::from_bits(2).sqrt(), true));
+    assert_eq!(sqrt(f64::MAX), is(f64::MAX.sqrt(), true));
+    // The square of 1 + 2^-52, rounded, is no square; of 1 + 2^-26 it is one.
+    let above = 1.0 + f64::EPSILON;
+    assert_eq!(sqrt(above * above), is(above, true));
+    let above = 1.0 + 2f64.powi(-26);
+    assert_eq!(sqrt(above * above), is(above, false));
     assert_eq!(
         sqrt(INFINITY),
         Err(Refusal::NotFinite { row: 0, column: 0 })
@@ -121,14 +134,41 @@ fn decompositions() {
     let d = mod_cholesky_gmw81(&[2.0, 2.0, 2.0, 4.0], 2).unwrap();
     assert_eq!(d.l, [2.0, 0.0, 1.0, 1.0]);
     assert_eq!((d.e, d.p), (vec![0.0, 0.0], vec![1, 0]));
-    assert_eq!((d.n, d.tied, d.phase2), (2, None, None));
+    assert_eq!((d.n, d.tied, d.phase2, d.inexact), (2, None, None, 0));
     let identity = mod_cholesky_gmw81(&[1.0, 0.0, 0.0, 1.0], 2).unwrap();
     assert_eq!(identity.tied, Some(0));
     let d = mod_cholesky_se90(&[4.0, 2.0, 2.0, 2.0], 2).unwrap();
     assert_eq!((d.l, d.phase2), (vec![2.0, 0.0, 1.0, 1.0], None));
     let d = mod_cholesky_se99(&[-4.0], 1).unwrap();
-    assert_eq!(d.phase2, Some(0));
+    assert_eq!((d.phase2, d.inexact), (Some(0), 1));
     assert!(d.e[0] > 4.0);
+}
+
+#[test]
+fn inexact_roots() {
+    for call in [mod_cholesky_gmw81, mod_cholesky_se90, mod_cholesky_se99] {
+        let count = |diagonal: &[f64]| {
+            let a = diag_mat_from_arr(diagonal).unwrap();
+            call(&a, diagonal.len()).unwrap().inexact
+        };
+        assert_eq!((count(&[4.0]), count(&[2.0])), (0, 1));
+        assert_eq!(count(&[4.0, 3.0, 2.0, 1.0]), 2);
+        assert_eq!((count(&[1.0; 48]), count(&[2.0; 48])), (0, 48));
+    }
+    for call in [mod_cholesky_se90, mod_cholesky_se99] {
+        for zero in [0.0, -0.0] {
+            assert_eq!(call(&[zero], 1).unwrap().inexact, 0);
+        }
+        // Both of the last block, then its second alone.
+        assert_eq!(call(&[1.0, 2.0, 2.0, -1.0], 2).unwrap().inexact, 2);
+        let a = [-9.0, 2.0, 2.0, 2.0, -8.0, 4.0, 2.0, 4.0, -9.0];
+        let d = call(&a, 3).unwrap();
+        assert_eq!((d.l[0], d.l[4], d.inexact), (2.0, 2.0, 1));
+        // The eigenvalues' alone, which doesn't count.
+        let a = [-9.0, 2.0, 2.0, 2.0, -7.0, 2.0, 2.0, 2.0, -8.0];
+        let d = call(&a, 3).unwrap();
+        assert_eq!(([d.l[0], d.l[4], d.l[8]], d.inexact), ([2.0, 1.0, 1.0], 0));
+    }
 }
 
 #[test]
@@ -162,12 +202,27 @@ fn lent_buffers() {
     let a = [0.0; 4];
     let ended = factor(Method::Se90, &a, 2, &mut l, &mut work, &mut e[..1], &mut p);
     assert_eq!(ended.outcome, Err(Refusal::BufferLength));
-    assert_eq!((ended.tied, ended.phase2), (None, None));
+    assert_eq!((ended.tied, ended.phase2, ended.inexact), (None, None, 0));
     assert_eq!((l, work, e, p), ([7.0; 4], [7.0; 4], [7.0; 2], [7; 2]));
     let ended = factor(Method::Se90, &a, 2, &mut l, &mut work, &mut e, &mut p);
     assert_eq!(ended.outcome, Err(Refusal::StoredNotFinite { step: 0 }));
-    assert_eq!(ended.tied, Some(0));
+    assert_eq!((ended.tied, ended.inexact), (Some(0), 0));
     assert_eq!((l, work, e, p), ([0.0; 4], [0.0; 4], [0.0; 2], [0, 1]));
+    // The first root was taken and is inexact; the run is refused at step 1.
+    let a = [1e-200, 3e-200, 3e-200, 1e-200];
+    let ended = factor(Method::Se90, &a, 2, &mut l, &mut work, &mut e, &mut p);
+    assert_eq!(ended.outcome, Err(Refusal::StoredNotFinite { step: 1 }));
+    assert_eq!(ended.inexact, 0);
+    let ended = factor(
+        Method::Gmw81,
+        &[4.0, 0.0, 0.0, 3.0],
+        2,
+        &mut l,
+        &mut work,
+        &mut e,
+        &mut p,
+    );
+    assert_eq!((ended.outcome, ended.inexact), (Ok(()), 1));
 }
 
 /// The diagonal 1, 1, 3: after the first swap contract 0 stands last.
@@ -186,6 +241,7 @@ fn contract_numbers() {
         ] {
             let d = run(&numbers).unwrap();
             assert_eq!((d.p, d.tied, d.phase2), (p.to_vec(), Some(1), None));
+            assert_eq!(d.inexact, 1);
         }
         for numbers in [&[][..], &[1, 2], &[1, 2, 3, 4]] {
             assert_eq!(run(numbers), Err(Refusal::NumbersLength));
@@ -205,7 +261,7 @@ fn numbers_among_the_checks() {
     let mut run = |a: &[f64], n: usize, numbers: &[u32], e_len: usize| {
         let e = &mut e[..e_len];
         let ended = factor_numbered(Method::Se99, a, n, numbers, &mut l, &mut work, e, &mut p);
-        assert_eq!((ended.tied, ended.phase2), (None, None));
+        assert_eq!((ended.tied, ended.phase2, ended.inexact), (None, None, 0));
         assert_eq!((l, work, p), ([7.0; 4], [7.0; 4], [7; 2]));
         ended.outcome.unwrap_err().number()
     };
@@ -233,6 +289,7 @@ fn load_order_by_number() {
     let second = mod_cholesky_numbered(Method::Gmw81, &reloaded, 3, &moved).unwrap();
     assert_eq!((first.p[0], first.tied), (1, Some(0)));
     assert_eq!((&first.l, first.tied), (&second.l, second.tied));
+    assert_eq!(first.inexact, second.inexact);
     assert_eq!(s.map(|i| first.e[i]).to_vec(), second.e);
     let contracts: Vec<usize> = second.p.iter().map(|&row| s[row]).collect();
     assert_eq!(first.p, contracts);
@@ -311,13 +368,17 @@ const MATRIX: [u8; 19] = [
 fn records() {
     let matrix = MATRIX;
     let marks = [0x11, 1, 0, 0, 0x12, 1, 0, 0xff, 0x13, 1, 0, 0xff];
+    let inexact = [0x18, 1, 0, 0];
     let order = [0x14, 1, 0, 0];
     let amounts = [0x15, 8, 0, 0, 0, 0, 0, 0, 0, 0, 0];
     let factor = [0x16, 8, 0, 0, 0, 0, 0, 0, 0, 0, 0x40];
     assert_eq!(
         record(&matrix),
-        [&marks[..], &order, &amounts, &factor].concat()
+        [&marks[..], &inexact, &order, &amounts, &factor].concat()
     );
+    let mut two = matrix;
+    two[17..].copy_from_slice(&[0, 0x40]);
+    assert_eq!(record(&two)[12..16], [0x18, 1, 0, 1]);
     let refused = |number: u8| {
         [
             0x11, 1, 0, number, 0x12, 1, 0, 0xff, 0x13, 1, 0, 0xff, 0x17, 2, 0, 0, 0,

@@ -12,11 +12,11 @@ use Rattle.methods.specs.Result.{Result}
 use Rattle.methods.specs.declared.decomposition.Decomposition.{Decomposition}
 use Rattle.encoding.specs.Bytes.{bytes, doubleBytes}
 use Rattle.answer_record.specs.Field.{field}
-use Rattle.answer_record.specs.AnswerRecord.{stepByte, marksFields, factorFields, placeField, answer-record}
+use Rattle.answer_record.specs.AnswerRecord.{stepByte, marksFields, countField, factorFields, placeField, answer-record}
 use Rattle.encoding.specs.Writing.{over, Wrote}
 use Rattle.answer_record.specs.Writing.{Front, result}
 use Rattle.encoding.proofs.ByteLaws.{length-bytes, length-content}
-use Rattle.encoding.proofs.Over.{over-then}
+use Rattle.encoding.proofs.Over.{length-over, over-then}
 
 pub head-written : (out a b r : List ℕ) (at p q next tag len : ℕ) → at + 3 ≤ length out → len < 65536
     → (a ≡ over out at (tag ∷ [])) × (p ≡ at + 1) → (b ≡ over a p (len % 256 ∷ [])) × (q ≡ p + 1) → (r ≡ over b q (len / 256 ∷ [])) × (next ≡ q + 1)
@@ -87,6 +87,17 @@ pub length-place : (t : Place) → length (placeField t) ≡ 5
 unfolding placeField bytes
 length-place t = refl
 
+pub length-count : (inexact : ℕ) → length (countField inexact) ≡ 4
+unfolding countField bytes
+length-count inexact = refl
+
+-- what follows the marks of a complete answer
+abbrev pub completeFields : Result → List ℕ
+completeFields r = countField (r .decomposition .inexact) ++ factorFields (r .p) (r .e) (r .l)
+
+pub length-completeFields : (r : Result) → length (completeFields r) ≡ 13 + length (r .p) + 8 * length (r .e) + 8 * length (r .l)
+length-completeFields r = length-append (countField (r .decomposition .inexact)) (factorFields (r .p) (r .e) (r .l)) ∙ omega (arith, length-count (r .decomposition .inexact), length-factor (r .p) (r .e) (r .l))
+
 -- the marks, then the rest
 rest-written : (out a r : List ℕ) (at next : ℕ) (d : Decomposition) (ys : List ℕ) → (a ≡ over out 0 (marksFields d)) × (at ≡ 12) → Wrote ys at a r next
     → 12 + length ys ≤ length out → Front (marksFields d ++ ys) out r next
@@ -95,10 +106,16 @@ rest-written out a r at next d ys x y h =
     (w .0, omega (arith, length-append (marksFields d) ys, length-marks d))
 
 module _ (out a c : List ℕ) (at next : ℕ) (r : Result) (x : (a ≡ over out 0 (marksFields (r .decomposition))) × (at ≡ 12)) where
-  pub complete-written : Wrote (factorFields (r .p) (r .e) (r .l)) at a c next → complete (r .decomposition .outcome) ≡ true → 12 + length (factorFields (r .p) (r .e) (r .l)) ≤ length out
-      → Front (answer-record r) out c next
-  unfolding answer-record
-  complete-written y g h = rw g (rest-written out a c at next (r .decomposition) (factorFields (r .p) (r .e) (r .l)) x y h)
+  pub complete-written : (b : List ℕ) (s : ℕ) → (b ≡ over a at (field 0x18 (r .decomposition .inexact ∷ []))) × (s ≡ at + 4) → Wrote (factorFields (r .p) (r .e) (r .l)) s b c next
+      → complete (r .decomposition .outcome) ≡ true → 12 + length (completeFields r) ≤ length out → Front (answer-record r) out c next
+  unfolding answer-record countField
+  complete-written b s y z g h =
+      let xs = countField (r .decomposition .inexact) in
+      let ys = factorFields (r .p) (r .e) (r .l) in
+      let e : length (completeFields r) ≡ 4 + length ys = length-append xs ys ∙ omega (arith, length-count (r .decomposition .inexact)) in
+      let k : length a ≡ length out = ap length (x .0) ∙ length-over out 0 (marksFields (r .decomposition)) (omega (arith, length-marks (r .decomposition))) in
+      let w = over-then a b c at s next 4 (length ys) xs ys (length-count (r .decomposition .inexact)) refl (omega (arith, x .1)) y z in
+      rw g (rest-written out a c at next (r .decomposition) (completeFields r) x (w .0, omega arith) h)
 
   pub refused-written : (t : Place) → t ≡ place (r .decomposition .outcome) → (c ≡ over a at (placeField t)) × (next ≡ at + 5) → complete (r .decomposition .outcome) ≡ false → 17 ≤ length out
       → Front (answer-record r) out c next

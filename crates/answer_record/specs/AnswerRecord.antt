@@ -14,7 +14,7 @@ use Rattle.answer_record.specs.Field.{field}
 
 -- the most bytes: n = 48
 abbrev pub longestAnswer : ℕ
-longestAnswer = 18885
+longestAnswer = 18889
 
 -- a step, FF for none
 abbrev pub stepByte : Mark → ℕ
@@ -25,6 +25,11 @@ stepByte (Step j) = j
 unfoldable pub marksFields : Decomposition → List ℕ
 unfolding bytes
 marksFields d = field 0x11 (number (d .outcome) ∷ []) ++ field 0x12 (stepByte (d .tied) ∷ []) ++ field 0x13 (stepByte (d .phase2) ∷ [])
+
+-- 18 count of inexact roots
+unfoldable pub countField : ℕ → List ℕ
+unfolding bytes
+countField inexact = field 0x18 (inexact ∷ [])
 
 -- 14 p, 15 e, 16 L
 unfoldable pub factorFields : List ℕ → List Float → List Float → List ℕ
@@ -37,6 +42,6 @@ unfolding bytes
 placeField at = field 0x17 (at .row ∷ at .column ∷ [])
 
 unfoldable pub answer-record : Result → List ℕ
-unfolding marksFields factorFields placeField
+unfolding marksFields countField factorFields placeField
 answer-record r = let outcome = r .decomposition .outcome in
-    marksFields (r .decomposition) ++ cond (complete outcome) (factorFields (r .p) (r .e) (r .l)) (placeField (place outcome))
+    marksFields (r .decomposition) ++ cond (complete outcome) (countField (r .decomposition .inexact) ++ factorFields (r .p) (r .e) (r .l)) (placeField (place outcome))

@@ -30,10 +30,11 @@ PlaceFits at = (at .row < 256) × (at .column < 256)
 abbrev pub result : Decomposition → List Float → List Float → List ℕ → Result
 result d l e p = record { decomposition = d; l = l; e = e; p = p }
 
--- at most 18,885 bytes hold it
+-- at most 18,889 bytes hold it
 pub record Fits (r : Result) : Type 0 where
   pub marks : MarksFit (r .decomposition)
   pub placed : PlaceFits (place (r .decomposition .outcome))
+  pub count : r .decomposition .inexact < 256
   pub order : AllBelow 256 (r .p)
   pub amounts : EachFinite (r .e)
   pub factor : EachFinite (r .l)

@@ -8,7 +8,7 @@ ghost use Rattle.arithmetic.specs.Outcome.{complete, place};
 ghost use Rattle.matrix.specs.Plain.{AllBelow};
 ghost use Rattle.encoding.specs.Bytes.{bytes, doubleBytes};
 ghost use Rattle.answer_record.specs.Field.{field};
-ghost use Rattle.answer_record.specs.AnswerRecord.{longestAnswer, stepByte, marksFields, factorFields, placeField, answer-record};
+ghost use Rattle.answer_record.specs.AnswerRecord.{longestAnswer, stepByte, marksFields, countField, factorFields, placeField, answer-record};
 ghost use Rattle.encoding.specs.Writing.{over, Wrote, EachFinite};
 ghost use Rattle.answer_record.specs.Writing.{Front, StepFits, MarksFit, PlaceFits, Fits, result};
 use arithmetic::outcome::Place;
@@ -19,7 +19,7 @@ use methods::decomposition::Decomposition;
 use methods::decomposition::Mark;
 
 // A buffer of this length holds every answer.
-pub const LONGEST_ANSWER: usize = 18885;
+pub const LONGEST_ANSWER: usize = 18889;
 
 // A field's tag and length.
 fn write_head(out: &mut [u8], at: usize, tag: u8, len: usize) -> usize
@@ -108,10 +108,11 @@ pub fn write_complete(out: &mut [u8], d: Decomposition, l: &[f64], e: &[f64], p:
     ensures { λ r. ⌜ Front (answer-record (result d (now (l .entry)) (now (e .entry)) (now (p .entry)))) (now (out .entry)) (now (out .exit)) r ⌝ }
 {
     let next = write_marks(out, d);
-    write_factor(out, next, p, e, l)
+    let order = write_byte_field(out, next, 0x18, d.inexact as u8);
+    write_factor(out, order, p, e, l)
 }
 
-// A refusal has no L, e and p.
+// A refusal has no count, p, e and L.
 pub fn write_refusal(out: &mut [u8], d: Decomposition) -> usize
     requires { ⌜ (length (now out) ≡ longestAnswer) × (complete (d .outcome) ≡ false) ⌝ }
     requires { ⌜ MarksFit d × PlaceFits (place (d .outcome)) ⌝ }

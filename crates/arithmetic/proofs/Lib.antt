@@ -16,6 +16,7 @@ pub mod Fields
 pub mod Stages
 pub mod Distance
 pub mod Nearest
+pub mod Inexact
 pub mod Cases
 pub mod Equals
 pub mod Folds

@@ -45,7 +45,7 @@ value-magnitude (inf s) a h = absurd h
 value-magnitude (fin s m e) a h = magnitude-is m e a (h .1)
 
 module _ (x : Float) (f : T (fits binary64 x)) (p : T (positive x)) where
-  handed : HandedOn x
+  pub handed : HandedOn x
   handed = whole-root x f p
 
   abbrev r : ℕ
@@ -66,16 +66,19 @@ module _ (x : Float) (f : T (fits binary64 x)) (p : T (positive x)) where
   result-value : HasValue (units binary64 false ((r + 1) / 2) (suc scale)) false ((r + 1) / 2 * 2 ^ suc scale) (2 ^ 1074)
   result-value = units-value ((r + 1) / 2) (suc scale) (omega (arith, handed .is .most)) (omega (arith, scale-small x f p r (handed .cut) scale (handed .is)))
 
+  pub result-magnitude : magnitude (sqrt x) ≡ (r + 1) / 2 * 2 ^ suc scale
+  result-magnitude = ap magnitude result-is ∙ value-magnitude _ _ result-value
+
   root-positive : T (positive (sqrt x))
   root-positive = subst (λ (v : Float). T (positive v)) (sym result-is) (positive-of-value (units binary64 false ((r + 1) / 2) (suc scale)) ((r + 1) / 2 * 2 ^ suc scale) (2 ^ 1074) result-value (mul-pos {m = (r + 1) / 2} (omega (arith, handed .is .least)) (pow-pos (suc scale))))
 
   nearest-of-all : (c j : ℕ) → c < 2 ^ 53 → Nearer (magnitude x * 2 ^ 1074) (magnitude (sqrt x)) (c * 2 ^ j)
   nearest-of-all c j small =
       let R = handed .is in
-      rw (ap magnitude result-is ∙ value-magnitude _ _ result-value) (nearer _ r scale (R .under) (R .over) odd (R .least) (R .most) c j small)
+      rw result-magnitude (nearer _ r scale (R .under) (R .over) odd (R .least) (R .most) c j small)
 
 -- ---- finite doubles that are not negative: zeros and positive ones
-kind : (x : Float) → NotNegative x → Zero x ⊎ T (positive x)
+pub kind : (x : Float) → NotNegative x → Zero x ⊎ T (positive x)
 unfolding lt ofBits
 kind nan h = absurd (false≢true (h .number))
 kind (inf s) h = absurd (false≢true (h .number))
@@ -83,16 +86,19 @@ kind (fin s zero e) h = inl (zero-of s e)
 kind (fin false (suc m) e) h = inr (lt→ltb 0 (suc m) (zero-lt-suc m))
 kind (fin true (suc m) e) h = absurd (fails (h .sign) (lt→ltb 0 (suc m * up e * 1 + 0 * 1 * down e) (omega (arith, mul-pos (mul-pos (zero-lt-suc m) (up-pos e)) (zero-lt-suc 0)))))
 
-zero-magnitude : {x : Float} → Zero x → magnitude x ≡ 0
+pub zero-magnitude : {x : Float} → Zero x → magnitude x ≡ 0
 unfolding magnitude magnitudeOf
 zero-magnitude (zero-of s e) = rw (zero-mul (up e)) (zero-div (down e))
 
-positive-not-negative : (x : Float) → T (fits binary64 x) → T (positive x) → NotNegative x
+pub unsigned-not-below : (m : ℕ) (e : ℤ) → lt (fin false m e) plus-zero ≡ false
 unfolding lt ofBits
+unsigned-not-below m e = le-ltb (m * up e * 1) (0 * 1 * down e) (omega (arith, zero-mul (down e)))
+
+positive-not-negative : (x : Float) → T (fits binary64 x) → T (positive x) → NotNegative x
 positive-not-negative nan f p = absurd p
 positive-not-negative (inf s) f p = absurd p
 positive-not-negative (fin true m e) f p = absurd p
-positive-not-negative (fin false m e) f p = record { double = f; number = refl; sign = le-ltb (m * up e * 1) (0 * 1 * down e) (omega (arith, zero-mul (down e))) }
+positive-not-negative (fin false m e) f p = record { double = f; number = refl; sign = unsigned-not-below m e }
 
 -- the magnitude in the one way of writing it
 pub held-by : (y : Float) → NotNegative y → (c : ℕ) × (j : ℕ) × (c < 2 ^ 53) × (c * 2 ^ j ≡ magnitude y)
@@ -121,7 +127,7 @@ same-magnitude (fin b m e) (fin c n d) hv hy s h =
     ∙ ofBits-toBits binary64 (fin c n d) (hy .double)
 
 -- what is nearer to the root than the root itself is the root
-apart : (n v y : ℕ) → Nearer n v y → y * y ≡ n → v ≡ y
+pub apart : (n v y : ℕ) → Nearer n v y → y * y ≡ n → v ≡ y
 apart n v y h e = elim (which v y) [
   | inl l ↦ absurd (omega (arith, h .below l, square-lt {a = v + y} {b = 2 * y} (omega arith), twice-square y))
   | inr g ↦ elim (eq-or-lt-of-le g) [

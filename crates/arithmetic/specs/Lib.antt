@@ -8,5 +8,6 @@ pub mod Sqrt
 pub mod SqrtStages
 pub mod InfinitelyPrecise
 pub mod Nearest
+pub mod Inexact
 pub mod AtLeast
 pub mod DoubleList

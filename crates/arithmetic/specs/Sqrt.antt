@@ -1,15 +1,17 @@
 -- The square root of a double, by whole numbers (document 01, 'Arithmetic').
 -- A unit is the smallest positive double, 2^-1074: every finite double's magnitude is a whole number of units.
 use Prim.Native.Nat.{ℕ, zero, suc, _+_, _*_, _/_, _^_}
-use mathlib.Core.Bool.{Bool, true, false, not, cond}
+use mathlib.Core.Bool.{Bool, true, false, not, cond, _&&_}
 use lib.IntN.{ℤ}
-use lib.Dec.{leb, ltb}
+use lib.Dec.{leb, ltb, eqb}
 use lib.Ieee.{Float, nan, inf, fin, binary64, up, down, size, round, lt}
 use lib.Ieee.Scale.{finite}
+use lib.Ieee.Positive.{positive}
 use Rattle.arithmetic.specs.Double.{plus-zero}
 use Rattle.arithmetic.specs.Outcome.{complete, refuse, _then_}
 use Rattle.arithmetic.specs.declared.outcome.Outcome.{Outcome}
 use Rattle.arithmetic.specs.declared.outcome.Outcome.the-variants.{NotFinite, StoredNotFinite}
+use Rattle.arithmetic.specs.declared.sqrt.Rounded.{Rounded}
 use Rattle.arithmetic.specs.declared.sqrt.SqrtAnswer.{SqrtAnswer}
 
 -- the whole part of the root of n, for an n of at most 2 * k binary digits: two digits of n for each digit of the root
@@ -53,10 +55,20 @@ sqrt (fin s zero e) = fin s zero e
 sqrt (fin true (suc m) e) = nan
 sqrt (fin false (suc m) e) = rootOf (magnitudeOf (suc m) e)
 
--- the root as a call of its own: 7 for an operand that is not finite, 9 at step 0 for a negative number, the value then +0.0
+-- The standard's inexact flag: rounding changed the root, so the square of what came out, unrounded, is not the operand. Only the root of a
+-- number above zero is rounded. specs/Inexact.antt: no double's square is the operand then.
+unfoldable pub inexact : Float → Bool
+unfolding sqrt magnitude
+inexact x = positive x && not (eqb (magnitude (sqrt x) * magnitude (sqrt x)) (magnitude x * 2 ^ 1074))
+
+abbrev pub flagged : Float → Rounded
+flagged x = record { value = sqrt x; inexact = inexact x }
+
+-- the root as a call of its own: 7 for an operand that is not finite, 9 at step 0 for a negative number, the value then +0.0 and the flag false
 abbrev pub sqrt-checks : Float → Outcome
 sqrt-checks x = refuse (not (finite x)) (NotFinite 0 0) then refuse (lt x plus-zero) (StoredNotFinite 0)
 
 unfoldable pub sqrt-call : Float → SqrtAnswer
-unfolding sqrt lt
-sqrt-call x = record { outcome = sqrt-checks x; value = cond (complete (sqrt-checks x)) (sqrt x) plus-zero }
+unfolding sqrt inexact lt
+sqrt-call x = let accepted = complete (sqrt-checks x) in
+    record { outcome = sqrt-checks x; value = cond accepted (sqrt x) plus-zero; inexact = accepted && inexact x }

@@ -1,10 +1,11 @@
 // The square root of a double: squareRoot of IEEE 754-2019, whose clauses stand in parentheses, in the order of its own text.
 // Negative numbers, infinity, NaN and zeros come first; then the root is formed as though with unlimited precision, then rounded.
+// Beside the root stands the inexact flag (7.6): whether rounding changed it.
 ghost use mathlib.Core.Path.{_≡_};
 ghost use Prim.Native.Nat.{_^_, _≤_, _<_};
 ghost use lib.Dec.{T};
 ghost use lib.Ieee.Positive.{positive};
-ghost use Rattle.arithmetic.specs.Sqrt.{magnitude, nearestTo, sqrt, sqrt-call};
+ghost use Rattle.arithmetic.specs.Sqrt.{magnitude, nearestTo, sqrt, flagged, sqrt-call};
 ghost use Rattle.arithmetic.specs.Nearest.{NotNegative};
 ghost use Rattle.arithmetic.specs.SqrtStages.{Significand};
 ghost use Rattle.arithmetic.specs.InfinitelyPrecise.{WholeRoot};
@@ -76,34 +77,59 @@ fn round_ties_to_even(r: IntermediateResult) -> f64
     f64::from_bits((r.scale + 1) * 0x10_0000_0000_0000 + (kept + up))
 }
 
-// The root of a number that is not negative.
-fn root(x: f64) -> f64
+// A root, and whether rounding changed it.
+pub struct Rounded {
+    pub value: f64,
+    pub inexact: bool,
+}
+
+impl Rounded {
+    fn of(value: f64, inexact: bool) -> Rounded
+        ensures { λ r. ⌜ r ≡ record { value = value; inexact = inexact } ⌝ }
+    {
+        Rounded { value, inexact }
+    }
+}
+
+// The root of a number that is not negative. Where nothing was cut off, the whole part is even, so its half is a double's significand and
+// rounding changes nothing.
+fn root(x: f64) -> Rounded
     requires { ⌜ NotNegative x ⌝ }
-    ensures { λ r. ⌜ r ≡ sqrt x ⌝ }
+    ensures { λ r. ⌜ r ≡ flagged x ⌝ }
 {
     if x == 0.0 {
-        return x; // squareRoot(-0) is -0 (6.3)
+        return Rounded::of(x, false); // squareRoot(-0) is -0 (6.3)
     }
-    round_ties_to_even(infinitely_precise_root(x))
+    let r = infinitely_precise_root(x);
+    Rounded::of(round_ties_to_even(r), r.cut)
 }
 
 // The root inside a run.
-pub fn sqrt_unchecked(x: f64) -> f64
-    ensures { λ r. ⌜ r ≡ sqrt x ⌝ }
+pub fn sqrt_flagged(x: f64) -> Rounded
+    ensures { λ r. ⌜ r ≡ flagged x ⌝ }
 {
     if x < 0.0 {
-        return 0.0 / 0.0; // an invalid operation: NaN (7.2)
+        return Rounded::of(0.0 / 0.0, false); // an invalid operation: NaN (7.2)
     }
     if !(x < 1.0 / 0.0) {
-        return x; // infinity (6.1), NaN (6.2)
+        return Rounded::of(x, false); // infinity (6.1), NaN (6.2)
     }
     root(x)
 }
 
-// The root as a call of its own, and how the call ended. The value beside a refusal is zero.
+// .. where the flag is not asked for.
+pub fn sqrt_unchecked(x: f64) -> f64
+    ensures { λ r. ⌜ r ≡ sqrt x ⌝ }
+{
+    let r = sqrt_flagged(x);
+    r.value
+}
+
+// The root as a call of its own, and how the call ended. Beside a refusal the value is zero and the flag false.
 pub struct SqrtAnswer {
     pub outcome: Outcome,
     pub value: f64,
+    pub inexact: bool,
 }
 
 pub fn sqrt(x: f64) -> SqrtAnswer
@@ -113,16 +139,20 @@ pub fn sqrt(x: f64) -> SqrtAnswer
         return SqrtAnswer {
             outcome: Outcome::NotFinite { row: 0, column: 0 },
             value: 0.0,
+            inexact: false,
         };
     }
     if x < 0.0 {
         return SqrtAnswer {
             outcome: Outcome::StoredNotFinite { step: 0 },
             value: 0.0,
+            inexact: false,
         };
     }
+    let r = root(x);
     SqrtAnswer {
         outcome: Outcome::Complete,
-        value: root(x),
+        value: r.value,
+        inexact: r.inexact,
     }
 }

@@ -8,11 +8,10 @@ use Rattle.arithmetic.specs.declared.outcome.Outcome.{Outcome}
 use Rattle.arithmetic.specs.declared.outcome.Outcome.the-variants.{Complete}
 use Rattle.matrix.specs.Matrix.{zeros}
 use Rattle.matrix.specs.Checks.{check-buffer, check-finite, check-symmetric}
-use Rattle.methods.specs.Calls.{operandChain, methodOf}
+use Rattle.methods.specs.Calls.{operandChain, methodOf, unstarted}
 use Rattle.methods.specs.Factor.{factor, tolerances}
 use Rattle.methods.specs.Result.{Result}
 use Rattle.methods.specs.declared.decomposition.Decomposition.{Decomposition}
-use Rattle.methods.specs.declared.decomposition.Mark.the-variants.{Never}
 use Rattle.encoding.specs.Bytes.{doubles, doubleBytes, numbers}
 use Rattle.encoding.specs.Checks.{check-entries, number-byte-checks}
 
@@ -41,9 +40,9 @@ unfoldable pub factor-byte-checks : ℕ → ℕ → List ℕ → Outcome → ℕ
 unfolding entry-byte-checks
 factor-byte-checks method n a numbering l work e p = entry-byte-checks method n a numbering l work e p then check-symmetric n (doubles a)
 
--- refused before the first step: no marks, every buffer untouched
+-- refused before the first step: every buffer untouched
 abbrev pub untouchedBytes : Outcome → List ℕ → List ℕ → List ℕ → List ℕ → BytesCall
-untouchedBytes outcome l work e p = bytesCall (record { outcome = outcome; tied = Never; phase2 = Never }) l work e p
+untouchedBytes outcome l work e p = bytesCall (unstarted outcome) l work e p
 
 -- after a run the work buffer is +0.0 throughout
 abbrev pub answeredBytes : ℕ → Result → BytesCall

@@ -13,6 +13,7 @@ use Rattle.byte_solve.specs.Solve.{SolveBytesCall}
 use Rattle.matrix.specs.declared.utils.EigenAnswer.{EigenAnswer}
 use Rattle.matrix.specs.declared.utils.SearchAnswer.{SearchAnswer}
 use Rattle.methods.specs.Calls.{Call}
+use Rattle.methods.specs.Progress.{oneIf}
 use Rattle.methods.specs.declared.decomposition.Decomposition.{Decomposition}
 use Rattle.answer_record.specs.AnswerRecord.{stepByte}
 use Rattle.record.specs.Record.{RecordCall}
@@ -30,7 +31,7 @@ refusal o = record { number = number o; row = place o .row; column = place o .co
 
 -- ---- what is handed back by value
 abbrev pub root : SqrtAnswer → Root
-root a = record { refusal = refusal (a .outcome); value = a .value }
+root a = record { refusal = refusal (a .outcome); value = a .value; inexact = oneIf (a .inexact) }
 
 abbrev pub eigenvalues : EigenAnswer → Eigenvalues
 eigenvalues a = record { refusal = refusal (a .outcome); hi = a .eigen .hi; lo = a .eigen .lo }
@@ -40,7 +41,7 @@ found a = record { refusal = refusal (a .outcome); index = a .index }
 
 -- the steps are the numbers that stand in a record: 255 for none
 abbrev pub factorization : Decomposition → Factorization
-factorization d = record { refusal = refusal (d .outcome); tied = stepByte (d .tied); phase2 = stepByte (d .phase2) }
+factorization d = record { refusal = refusal (d .outcome); tied = stepByte (d .tied); phase2 = stepByte (d .phase2); inexact = d .inexact }
 
 abbrev pub written : RecordAnswer → Written
 written a = record { refusal = refusal (a .outcome); length = a .len }

@@ -10,12 +10,13 @@ use methods::decomposition::Mark;
 use modcholesky::calls::factor;
 use modcholesky::calls::factor_numbered;
 
-// The tied step and the phase-two step, 255 for none.
+// The tied step and the phase-two step, 255 for none, and how many of the diagonal roots are inexact.
 #[repr(C)]
 pub struct Factorization {
     pub refusal: Refusal,
     pub tied: usize,
     pub phase2: usize,
+    pub inexact: usize,
 }
 
 impl Factorization {
@@ -29,6 +30,7 @@ impl Factorization {
             refusal: Refusal::of(outcome),
             tied: step_number(tied),
             phase2: step_number(phase2),
+            inexact: answer.inexact,
         }
     }
 }

@@ -25,7 +25,7 @@ impl Written {
     }
 }
 
-// Writes the answer to a matrix record into `answer`, where that has 18,885 bytes.
+// Writes the answer to a matrix record into `answer`, where that has 18,889 bytes.
 #[no_mangle]
 pub extern "C" fn millracer_record(b: &[u8], answer: &mut [u8]) -> Written
     ensures { λ r. ⌜ record { written = r; answer = now (answer .exit) } ≡ recordExport (record-call (now (b .entry)) (now (answer .entry))) ⌝ }

@@ -13,13 +13,15 @@ ghost use Rattle.matrix.specs.Checks.{AllFinite};
 ghost use Rattle.matrix.specs.Matrix.{Square, at, put, zeros};
 ghost use Rattle.matrix.specs.Plain.{AllBelow};
 ghost use Rattle.matrix.specs.Table.{table};
-ghost use Rattle.methods.specs.Gmw81.{Stepped, Finished, foldOffDiagonal, foldRow, offDiagonalMax, deltaOf, betaOf, state, start, divideRow, dot, column, thetaOf, dOf, updateDiagonal, storedFinite, stepAt, step, doutOf, unitLower, product, scaledFinite};
+ghost use Rattle.methods.specs.Gmw81.{Stepped, Finished, foldOffDiagonal, foldRow, offDiagonalMax, deltaOf, betaOf, state, start, divideRow, dot, column, thetaOf, dOf, updateDiagonal, storedFinite, stepAt, step, doutOf, inexactRoots, unitLower, product, scaledFinite};
+ghost use Rattle.methods.specs.Progress.{stores};
 ghost use Rattle.methods.specs.declared.decomposition.Mark.the-variants.{Never};
 use arithmetic::double;
 use arithmetic::double::abs;
 use arithmetic::double::finite;
 use arithmetic::double::max;
 use arithmetic::double::square;
+use arithmetic::sqrt::sqrt_flagged;
 use arithmetic::sqrt::sqrt_unchecked;
 use matrix::checks::list_finite;
 use matrix::entries::clear;
@@ -27,6 +29,8 @@ use matrix::entries::get;
 use matrix::entries::put;
 use methods::gmw81::StepValues;
 use methods::progress::Progress;
+use methods::progress::Stores;
+use methods::progress::one_if;
 use statements::both;
 use statements::larger_magnitude;
 
@@ -347,14 +351,19 @@ pub fn steps(
 
 // ---- after the steps
 
-// d becomes its roots.
-fn roots(d: &mut [f64])
+// d becomes its roots; how many of them are inexact.
+fn roots(d: &mut [f64]) -> usize
     ensures { λ _. ⌜ now (d .exit) ≡ table (length (now (d .entry))) (λ i. sqrt (getD (now (d .entry)) i nan)) ⌝ }
+    ensures { λ k. ⌜ k ≡ inexactRoots (length (now (d .entry))) (now (d .entry)) ⌝ }
 {
     let n = d.len();
+    let mut inexact = 0;
     for i in 0..n {
-        d[i] = sqrt_unchecked(d[i]);
+        let root = sqrt_flagged(d[i]);
+        d[i] = root.value;
+        inexact = inexact + one_if(root.inexact);
     }
+    inexact
 }
 
 fn unit_diagonal(l: &mut [f64], n: usize)
@@ -388,19 +397,22 @@ fn scale_rows(l: &mut [f64], r: &[f64], n: usize)
     }
 }
 
-// The scaled factor, and whether step n stored finite values alone.
-fn scale(l: &mut [f64], d: &mut [f64], n: usize) -> bool
+// The scaled factor, whether step n stored finite values alone, and how many of its roots are inexact.
+fn scale(l: &mut [f64], d: &mut [f64], n: usize) -> Stores
     requires { ⌜ Square n (now l) ⌝ }
     requires { ⌜ AllFinite n (now l) ⌝ }
     requires { ⌜ (length (now d) ≡ n) × (0 < n) ⌝ }
     ensures { λ _. ⌜ now (l .exit) ≡ product n (unitLower n (now (l .entry))) (doutOf n (now (d .entry))) ⌝ }
-    ensures { λ ok. ⌜ ok ≡ scaledFinite n (doutOf n (now (d .entry))) (product n (unitLower n (now (l .entry))) (doutOf n (now (d .entry)))) ⌝ }
+    ensures { λ r. ⌜ r ≡ stores (scaledFinite n (doutOf n (now (d .entry))) (product n (unitLower n (now (l .entry))) (doutOf n (now (d .entry))))) (inexactRoots n (now (d .entry))) ⌝ }
 {
-    roots(d);
+    let inexact = roots(d);
     unit_diagonal(l, n);
     statements::lower_triangle(l, n);
     scale_rows(l, d, n);
-    both(list_finite(d, 0), list_finite(l, 0))
+    Stores {
+        ok: both(list_finite(d, 0), list_finite(l, 0)),
+        inexact,
+    }
 }
 
 pub fn finish(
@@ -414,7 +426,7 @@ pub fn finish(
 ) -> Progress
     requires { ⌜ Square n (now l) ⌝ }
     requires { ⌜ (r .refused ≡ Never → AllFinite n (now l)) ⌝ }
-    requires { ⌜ (length (now d) ≡ n) × (length (now e) ≡ n) × (length (now p) ≡ n) × (length (now ec) ≡ n) × (0 < n) ⌝ }
+    requires { ⌜ (length (now d) ≡ n) × (length (now e) ≡ n) × (length (now p) ≡ n) × (length (now ec) ≡ n) × (0 < n) × (r .inexact ≡ 0) ⌝ }
     requires { ⌜ AllBelow n (now p) ⌝ }
     ensures { λ q. ⌜ ((c : List Float) → Finished n (now (l .entry)) c (now (d .entry)) (now (e .entry)) (now (p .entry)) r (now (l .exit)) (now (e .exit)) q) ⌝ }
 {
@@ -422,7 +434,7 @@ pub fn finish(
     if refused.marked() {
         return r;
     }
-    let ok = scale(l, d, n);
+    let stores = scale(l, d, n);
     statements::reorder(p, e, ec, n);
-    r.stored(ok, n)
+    r.counted(stores.inexact).stored(stores.ok, n)
 }

@@ -12,13 +12,14 @@ use Rattle.matrix.specs.Eigenvalues.{eigenvaluesOf}
 use Rattle.matrix.specs.Calls.{search-checks, eigenvalues-2x2-call}
 use Rattle.circles.specs.Circles.{setEach, firstOverflow, circle-checks}
 use Rattle.methods.specs.Factor.{factor, tolerances}
+use Rattle.methods.specs.Progress.{oneIf}
 use Rattle.methods.specs.declared.method.Method.the-variants.{Gmw81, Se}
 use Rattle.methods.specs.declared.decomposition.Mark.the-variants.{Step}
 use Rattle.methods.specs.declared.schnabel_eskow.Variant.the-variants.{Se90, Se99}
-use Rattle.hand.specs.Hand.{4·, minus, All, rows, OrdersOf}
+use Rattle.hand.specs.Hand.{4·, minus, All, rows, InexactRoots, OrdersOf}
 
 pub hand-calculations : All rows
-unfolding factor add sub mul div lt eq neg isNan ofBits firstFrom sqrt-call eigenvalues-2x2-call search-checks largest circle-checks setEach firstOverflow _then_ eigenvaluesOf
+unfolding factor add sub mul div lt eq neg isNan ofBits firstFrom sqrt-call eigenvalues-2x2-call search-checks largest circle-checks setEach firstOverflow _then_ eigenvaluesOf oneIf
 hand-calculations = (refl, (refl, (refl, (refl, (refl, (refl, (refl, (refl, (refl, (refl, (refl, (refl, ((refl, refl), (refl, tt))))))))))))))
 
 -- ---- outside the table
@@ -34,6 +35,11 @@ size-0 = refl
 pub se99-enters : factor (Se Se99) tolerances [] 1 (minus 4· ∷ []) .decomposition .phase2 ≡ Step 0
 unfolding factor add sub mul div lt eq neg isNan ofBits
 se99-enters = refl
+
+-- ---- which roots count
+pub inexact-roots : InexactRoots
+unfolding factor add sub mul div lt eq neg isNan ofBits sqrt-call _then_ oneIf
+inexact-roots = record { root-of-two = refl; root-of-minus-zero = refl; gmw81 = refl; not-in-beta = refl; se90 = refl; se99 = refl; one-row-left = refl; both-in-block = refl; first-in-block = refl; second-in-block = refl; not-in-eigenvalues = refl }
 
 -- ---- a tie after a swap, without numbers and with
 pub gmw81-orders : OrdersOf Gmw81

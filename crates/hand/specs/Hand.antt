@@ -1,7 +1,7 @@
--- Document 01's section 'Hand calculations': the fourteen as rows of one table, all without contract numbers. proofs/Rows.antt:
--- `hand-calculations`, one fact over all rows.
+-- Document 01's section 'Hand calculations': the fourteen as rows of one table, all without contract numbers, with document 02's count of
+-- inexact roots. proofs/Rows.antt: `hand-calculations`, one fact over all rows.
 use mathlib.Core.Path.{_≡_}
-use mathlib.Core.Bool.{true, false}
+use mathlib.Core.Bool.{Bool, true, false}
 use mathlib.Core.List.{List, [], _∷_}
 use Prim.Native.Nat.{ℕ}
 use lib.IntN.{pos, negsuc}
@@ -18,7 +18,7 @@ use Rattle.methods.specs.declared.method.Method.{Method}
 use Rattle.methods.specs.declared.method.Method.the-variants.{Gmw81, Se}
 use Rattle.methods.specs.declared.decomposition.Mark.{Mark}
 use Rattle.methods.specs.declared.decomposition.Mark.the-variants.{Never, Step}
-use Rattle.methods.specs.declared.schnabel_eskow.Variant.the-variants.{Se90}
+use Rattle.methods.specs.declared.schnabel_eskow.Variant.the-variants.{Se90, Se99}
 
 -- ---- numbers of the table
 abbrev 1· : Float
@@ -36,8 +36,14 @@ abbrev pub 4· : Float
 abbrev 5· : Float
 5· = fin false 5 (pos 0)
 
+abbrev 7· : Float
+7· = fin false 7 (pos 0)
+
 abbrev 8· : Float
 8· = fin false 1 (pos 3)
+
+abbrev 9· : Float
+9· = fin false 9 (pos 0)
 
 abbrev 0· : Float
 0· = plus-zero
@@ -63,26 +69,26 @@ largest-double = ofBits binary64 0x7fef_ffff_ffff_ffff
 
 -- ---- a row: which calculation it is, and what comes out
 pub data Row : Type 0 where
-  -- method, n, matrix; outcome (refusal and place), tied step, phase-two step, L, e, p
-  factorization : Method → ℕ → List Float → Outcome → Mark → Mark → List Float → List Float → List ℕ → Row
+  -- method, n, matrix; outcome (refusal and place), tied step, phase-two step, count of inexact roots, L, e, p
+  factorization : Method → ℕ → List Float → Outcome → Mark → Mark → ℕ → List Float → List Float → List ℕ → Row
   -- a block of two rows of two; the larger and the smaller eigenvalue
   eigenvalues : List (List Float) → Float → Float → Row
   -- n, matrix; centres, radii
   circles : ℕ → List Float → List Float → List Float → Row
   -- a list; the index of the largest, and of the largest magnitude
   searches : List Float → ℕ → ℕ → Row
-  -- an operand; its root
-  root : Float → Float → Row
+  -- an operand; its root, and whether it is inexact
+  root : Float → Float → Bool → Row
 
 -- what a row states, of the definitions themselves
 abbrev pub Holds : Row → Type 0
-Holds (factorization method n a outcome tied phase2 l e p) =
-    factor method tolerances [] n a ≡ record { decomposition = record { outcome = outcome; tied = tied; phase2 = phase2 }; l = l; e = e; p = p }
+Holds (factorization method n a outcome tied phase2 inexact l e p) =
+    factor method tolerances [] n a ≡ record { decomposition = record { outcome = outcome; tied = tied; phase2 = phase2; inexact = inexact }; l = l; e = e; p = p }
 Holds (eigenvalues mat hi lo) = eigenvalues-2x2-call mat ≡ record { outcome = Complete; eigen = record { hi = hi; lo = lo } }
 Holds (circles n mat centres radii) = gershgorin-circles-call n mat (zeros n) (zeros n) ≡ circlesCall Complete centres radii
 Holds (searches c index by-magnitude) =
     (search-call false c ≡ record { outcome = Complete; index = index }) × (search-call true c ≡ record { outcome = Complete; index = by-magnitude })
-Holds (root x r) = sqrt-call x ≡ record { outcome = Complete; value = r }
+Holds (root x r inexact) = sqrt-call x ≡ record { outcome = Complete; value = r; inexact = inexact }
 
 abbrev pub All : List Row → Type 0
 All [] = Unit
@@ -90,21 +96,43 @@ All (row ∷ rest) = Holds row × All rest
 
 abbrev pub rows : List Row
 rows =
-    factorization Gmw81 1 (4· ∷ []) Complete Never Never (2· ∷ []) (0· ∷ []) (0 ∷ [])
-    ∷ factorization Gmw81 1 (minus 4· ∷ []) Complete Never Never (2· ∷ []) (8· ∷ []) (0 ∷ [])
-    ∷ factorization Gmw81 1 (0· ∷ []) Complete Never Never (2^-26 ∷ []) (2^-52 ∷ []) (0 ∷ [])
-    ∷ factorization Gmw81 2 (4· ∷ 2· ∷ 2· ∷ 2· ∷ []) Complete Never Never (2· ∷ 0· ∷ 1· ∷ 1· ∷ []) (0· ∷ 0· ∷ []) (0 ∷ 1 ∷ [])
-    ∷ factorization Gmw81 2 (2· ∷ 2· ∷ 2· ∷ 4· ∷ []) Complete Never Never (2· ∷ 0· ∷ 1· ∷ 1· ∷ []) (0· ∷ 0· ∷ []) (1 ∷ 0 ∷ [])
-    ∷ factorization Gmw81 2 (1· ∷ 0· ∷ 0· ∷ 1· ∷ []) Complete (Step 0) Never (1· ∷ 0· ∷ 0· ∷ 1· ∷ []) (0· ∷ 0· ∷ []) (0 ∷ 1 ∷ [])
-    ∷ factorization Gmw81 2 (largest-double ∷ largest-double ∷ largest-double ∷ largest-double ∷ []) (StoredNotFinite 0) (Step 0) Never (zeros 4) (zeros 2) (0 ∷ 1 ∷ [])
-    ∷ factorization (Se Se90) 1 (minus 4· ∷ []) (StoredNotFinite 0) Never Never (zeros 1) (zeros 1) (0 ∷ [])
-    ∷ factorization (Se Se90) 2 (4· ∷ 2· ∷ 2· ∷ 2· ∷ []) Complete Never Never (2· ∷ 0· ∷ 1· ∷ 1· ∷ []) (0· ∷ 0· ∷ []) (0 ∷ 1 ∷ [])
-    ∷ factorization (Se Se90) 2 (0· ∷ 0· ∷ 0· ∷ 0· ∷ []) (StoredNotFinite 0) (Step 0) Never (zeros 4) (zeros 2) (0 ∷ 1 ∷ [])
+    factorization Gmw81 1 (4· ∷ []) Complete Never Never 0 (2· ∷ []) (0· ∷ []) (0 ∷ [])
+    ∷ factorization Gmw81 1 (minus 4· ∷ []) Complete Never Never 0 (2· ∷ []) (8· ∷ []) (0 ∷ [])
+    ∷ factorization Gmw81 1 (0· ∷ []) Complete Never Never 0 (2^-26 ∷ []) (2^-52 ∷ []) (0 ∷ [])
+    ∷ factorization Gmw81 2 (4· ∷ 2· ∷ 2· ∷ 2· ∷ []) Complete Never Never 0 (2· ∷ 0· ∷ 1· ∷ 1· ∷ []) (0· ∷ 0· ∷ []) (0 ∷ 1 ∷ [])
+    ∷ factorization Gmw81 2 (2· ∷ 2· ∷ 2· ∷ 4· ∷ []) Complete Never Never 0 (2· ∷ 0· ∷ 1· ∷ 1· ∷ []) (0· ∷ 0· ∷ []) (1 ∷ 0 ∷ [])
+    ∷ factorization Gmw81 2 (1· ∷ 0· ∷ 0· ∷ 1· ∷ []) Complete (Step 0) Never 0 (1· ∷ 0· ∷ 0· ∷ 1· ∷ []) (0· ∷ 0· ∷ []) (0 ∷ 1 ∷ [])
+    ∷ factorization Gmw81 2 (largest-double ∷ largest-double ∷ largest-double ∷ largest-double ∷ []) (StoredNotFinite 0) (Step 0) Never 0 (zeros 4) (zeros 2) (0 ∷ 1 ∷ [])
+    ∷ factorization (Se Se90) 1 (minus 4· ∷ []) (StoredNotFinite 0) Never Never 0 (zeros 1) (zeros 1) (0 ∷ [])
+    ∷ factorization (Se Se90) 2 (4· ∷ 2· ∷ 2· ∷ 2· ∷ []) Complete Never Never 0 (2· ∷ 0· ∷ 1· ∷ 1· ∷ []) (0· ∷ 0· ∷ []) (0 ∷ 1 ∷ [])
+    ∷ factorization (Se Se90) 2 (0· ∷ 0· ∷ 0· ∷ 0· ∷ []) (StoredNotFinite 0) (Step 0) Never 0 (zeros 4) (zeros 2) (0 ∷ 1 ∷ [])
     ∷ eigenvalues ((2· ∷ 1· ∷ []) ∷ (1· ∷ 2· ∷ []) ∷ []) 3· 1·
     ∷ circles 2 (1· ∷ minus 2· ∷ 3· ∷ 4· ∷ []) (1· ∷ 4· ∷ []) (2· ∷ 2· ∷ [])
     ∷ searches (3· ∷ minus 5· ∷ 3· ∷ []) 0 1
-    ∷ root 2^-1074 2^-537
+    ∷ root 2^-1074 2^-537 false
     ∷ []
+
+-- ---- which roots count (document 02, N5)
+
+-- method, n, matrix; phase-two step, and how many of the n diagonal roots are inexact
+abbrev Counted : Method → ℕ → List Float → Mark → ℕ → Type 0
+Counted method n a phase2 inexact = factor method tolerances [] n a .decomposition ≡ record { outcome = Complete; tied = Never; phase2 = phase2; inexact = inexact }
+
+pub record InexactRoots : Type 0 where
+  pub root-of-two : sqrt-call 2· .inexact ≡ true
+  pub root-of-minus-zero : sqrt-call (minus 0·) ≡ record { outcome = Complete; value = minus 0·; inexact = false }
+  pub gmw81 : Counted Gmw81 1 (2· ∷ []) Never 1
+  -- beta takes the root of 3 too
+  pub not-in-beta : Counted Gmw81 2 (4· ∷ 0· ∷ 0· ∷ 1· ∷ []) Never 0
+  pub se90 : Counted (Se Se90) 2 (2· ∷ 0· ∷ 0· ∷ 1· ∷ []) Never 1
+  pub se99 : Counted (Se Se99) 1 (2· ∷ []) Never 1
+  -- the last row alone, and the last block: both of its roots, the first (of 2), and the second (of 0.75)
+  pub one-row-left : Counted (Se Se99) 1 (minus 4· ∷ []) (Step 0) 1
+  pub both-in-block : Counted (Se Se99) 2 (1· ∷ 2· ∷ 2· ∷ 2· ∷ []) (Step 0) 2
+  pub first-in-block : Counted (Se Se90) 3 (minus 2· ∷ 2· ∷ 2· ∷ 2· ∷ minus 3· ∷ 1· ∷ 2· ∷ 1· ∷ minus 4· ∷ []) (Step 0) 1
+  pub second-in-block : Counted (Se Se90) 3 (minus 9· ∷ 2· ∷ 2· ∷ 2· ∷ minus 8· ∷ 4· ∷ 2· ∷ 4· ∷ minus 9· ∷ []) (Step 0) 1
+  -- the eigenvalues take the root of 1.25 too
+  pub not-in-eigenvalues : Counted (Se Se90) 3 (minus 9· ∷ 2· ∷ 2· ∷ 2· ∷ minus 7· ∷ 2· ∷ 2· ∷ 2· ∷ minus 8· ∷ []) (Step 0) 0
 
 -- ---- a tie by contract number
 

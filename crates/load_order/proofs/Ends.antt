@@ -55,10 +55,11 @@ pub record Joined (n : ℕ) (s : List ℕ) (first second : Result) : Type 0 wher
   pub throughout : first .decomposition .phase2 ≡ Never → AlikeThroughout n s first second
 
 module _ (n : ℕ) (s : List ℕ) (A B : End) (L : LoadOrder n s) where
-  throughout : (m : Mark) → A .progress .refused ≡ m → B .progress .refused ≡ m → (A .progress .refused ≡ Never → Completed n s A B) → AlikeThroughout n s (handed n A) (handed n B)
-  throughout Never p q c = rw (p, q) (record { outcome = refl; factors = c p .factors; amounts = c p .amounts; pivots = λ h. c p .pivots })
-  throughout (Step t) p q c = rw (p, q) (record {
+  throughout : (m : Mark) → A .progress .refused ≡ m → B .progress .refused ≡ m → A .progress .inexact ≡ B .progress .inexact → (A .progress .refused ≡ Never → Completed n s A B) → AlikeThroughout n s (handed n A) (handed n B)
+  throughout Never p q k c = rw (p, q) (record { outcome = refl; inexact = k; factors = c p .factors; amounts = c p .amounts; pivots = λ h. c p .pivots })
+  throughout (Step t) p q k c = rw (p, q) (record {
     outcome = refl;
+    inexact = refl;
     factors = refl;
     amounts = λ i h. getD-replicate n i plus-zero nan h ∙ sym (getD-replicate n (getD s i 0) plus-zero nan (L .below i h));
     pivots = λ e. absurd (refused-not-complete t e);
@@ -71,7 +72,7 @@ module _ (n : ℕ) (s : List ℕ) (A B : End) (L : LoadOrder n s) where
   ended-joined (both-alike C) = record {
     tied = ap (λ (r : Progress). r .tied) (C .same);
     phase2 = ap (λ (r : Progress). r .phase2) (C .same);
-    throughout = λ k. throughout (A .progress .refused) refl (sym (ap (λ (r : Progress). r .refused) (C .same))) (C .completed);
+    throughout = λ k. throughout (A .progress .refused) refl (sym (ap (λ (r : Progress). r .refused) (C .same))) (ap (λ (r : Progress). r .inexact) (C .same)) (C .completed);
   }
 
   untied : Joined n s (handed n A) (handed n B) → Alike n s (handed n A) (handed n B)

@@ -19,10 +19,10 @@ use Rattle.arithmetic.proofs.Cases.{Is, is, holds, fails, same-tests}
 use Rattle.matrix.proofs.Bijection.{Bijection, Fixes, bijection-from}
 use Rattle.matrix.proofs.EntryLaws.{Entries}
 use Rattle.methods.specs.Marks.{marked}
-use Rattle.methods.specs.Progress.{searched, stored}
+use Rattle.methods.specs.Progress.{searched, stored, counted}
 use Rattle.methods.specs.Result.{identity}
 use Rattle.methods.specs.Statements.{diagonalMax, diagonal, pick, pivotMatrix}
-use Rattle.methods.specs.Gmw81.{Run, start, divideRow, dot, dOf, updateDiagonal, storedFinite, c₂Of, stepAt, step, doutOf, unitLower, product, scaledFinite, finish, run, stepped, offDiagonalMax, deltaOf, betaOf}
+use Rattle.methods.specs.Gmw81.{Run, start, divideRow, dot, dOf, updateDiagonal, storedFinite, c₂Of, stepAt, step, doutOf, inexactRoots, unitLower, product, scaledFinite, finish, run, stepped, offDiagonalMax, deltaOf, betaOf}
 use Rattle.methods.specs.declared.decomposition.Mark.the-variants.{Never}
 use Rattle.methods.specs.declared.progress.Progress.{Progress}
 use Rattle.methods.proofs.Tests.{all-same, all-along}
@@ -35,7 +35,7 @@ use Rattle.methods.proofs.LoadOrders.{order}
 use Rattle.methods.proofs.GmwLaws.{started-is, step-at-is, finish-stays, finish-goes, finish-order}
 use Rattle.methods.proofs.GmwRuns.{steps-keep, run-is, l₂Of, c₃Of, stepD, stepE, stepTest}
 use Rattle.methods.proofs.GmwSteps.{column-at, diagonal-other, row-moved, row-fixed, column-moved, diagonal-moved, theta-moved, start-at, start-moved}
-use Rattle.load_order.proofs.Positions.{Pivoted, loaded-positions, same-pivots, same-amounts}
+use Rattle.load_order.proofs.Positions.{Pivoted, corner, loaded-positions, same-pivots, same-amounts}
 use Rattle.load_order.proofs.Picks.{Searches, without-numbers, diagonal-picks-first}
 use Rattle.load_order.proofs.Lockstep.{Steps, InStep, Together, Runs, Laws, runs}
 use Rattle.load_order.proofs.OwnSteps.{OrderLaws, Own, own}
@@ -133,17 +133,14 @@ module _ (n : ℕ) (delta beta : Float) (s : ℕ → ℕ) (j a b : ℕ) (tie : B
           (sub-fits binary64 (at n (l₂Of n j a A) i j) (dot n j (l₂Of n j a A) (pivotMatrix n j a (A .c)) i));
     }
 
-    corner : {X Y : List Float} → Moved n σ₁ X Y → at n X j j ≡ at n Y j j
-    corner {X} {Y} M = sym (M .moved j j (W .here) (W .here) ∙ ap₂ (at n X) (f₁ j (omega arith) (W .here)) (f₁ j (omega arith) (W .here)))
-
     same-d : stepD n delta beta j a A ≡ stepD n delta beta j b B
-    same-d = ap₂ (λ (x y : Float). dOf x y beta delta) (corner C₂) (theta-moved n j σ₁ τ₁ (W .here) P₁ f₁ (c₂ a A) (c₂ b B) C₂ column-double)
+    same-d = ap₂ (λ (x y : Float). dOf x y beta delta) (corner W C₂) (theta-moved n j σ₁ τ₁ (W .here) P₁ f₁ (c₂ a A) (c₂ b B) C₂ column-double)
 
     C₃ : Moved n σ₁ (c₃ a A) (c₃ b B)
     C₃ = subst (λ (d : Float). Moved n σ₁ (c₃ a A) (updateDiagonal n j d (c₂ b B))) same-d (diagonal-moved n j σ₁ τ₁ (W .here) P₁ f₁ (stepD n delta beta j a A) (c₂ a A) (c₂ b B) C₂)
 
     same-e : stepE n delta beta j a A ≡ stepE n delta beta j b B
-    same-e = ap₂ _⊖_ same-d (corner C₃)
+    same-e = ap₂ _⊖_ same-d (corner W C₃)
 
     same-row : okRow a A ≡ okRow b B
     same-row = all-same 0 j (λ k. finite (at n (l₂Of n j a A) j k)) (λ k. finite (at n (l₂Of n j b B) j k)) (omega arith)
@@ -249,7 +246,7 @@ module _ (n : ℕ) (delta beta : Float) (s : List ℕ) (A B : Run) where
       let l : A .l ≡ B .l = sym (moved-same n (L .positions .σ) (A .l) (B .l) (L .positions .fixes) (L .values .moved-l)) in
       let second = sym (ap (λ (r : Progress). r .refused) same) ∙ G .refused in
       rw (finish-goes n A (ap marked (G .refused)), finish-goes n B (ap marked second)) (record {
-        same = λ i. stored (scaledFinite n (doutOf n (L .values .same-d i)) (product n (unitLower n (l i)) (doutOf n (L .values .same-d i)))) n (same i);
+        same = λ i. stored (scaledFinite n (doutOf n (L .values .same-d i)) (product n (unitLower n (l i)) (doutOf n (L .values .same-d i)))) n (counted (inexactRoots n (L .values .same-d i)) (same i));
         completed = λ r. record {
           factors = ap₂ (λ (x d : List Float). product n (unitLower n x) (doutOf n d)) l (L .values .same-d);
           amounts = same-amounts (L .positions) (L .values .same-e) (L .values .lengthE);

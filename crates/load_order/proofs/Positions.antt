@@ -1,10 +1,11 @@
 -- Where the contracts of two runs stand before step j: kept by pivots that correspond. Where all are fixed, amounts and pivots are alike.
-use mathlib.Core.Path.{_≡_, sym, ap, _∙_}
+use mathlib.Core.Path.{_≡_, sym, ap, ap₂, _∙_}
 use mathlib.Core.List.{List}
 use Prim.Native.Nat.{ℕ, suc, _+_, _<_}
 use native.Mathlib.Omega.{arith}
 use lib.ListN.{length, getD}
 use lib.Ieee.{Float, nan}
+use Rattle.matrix.specs.Matrix.{at}
 use Rattle.matrix.proofs.TableLaws.{getD-table}
 use Rattle.matrix.proofs.Bijection.{Bijection, Fixes, bijection-turned, turned, turned-fixes}
 use Rattle.methods.specs.Result.{identity}
@@ -74,6 +75,10 @@ pivoted n s j p q L a b W = record {
   where
     fixes : Fixes n (j + 1) (turned j (j + a) (j + b) (L .σ))
     fixes = turned-fixes n j (j + a) (j + b) (L .σ) (L .fixes) (omega arith) (omega arith) (W .corresponds)
+
+-- entry (j, j) of such matrices is the same
+pub corner : {n : ℕ} {s : ℕ → ℕ} {j : ℕ} {p q : List ℕ} {L : Positions n s j p q} {a b : ℕ} (W : Pivoted n s j p q L a b) {X Y : List Float} → Moved n (W .next .σ) X Y → at n X j j ≡ at n Y j j
+corner {n} {j = j} W {X} M = sym (M .moved j j (W .here) (W .here) ∙ ap₂ (at n X) (W .fixes j (omega arith) (W .here)) (W .fixes j (omega arith) (W .here)))
 
 -- what holds before a step holds before the one before it
 abbrev pub earlier : {n : ℕ} {s : ℕ → ℕ} {j : ℕ} {p q : List ℕ} → Positions n s (suc j) p q → Positions n s j p q

@@ -1,6 +1,6 @@
 -- Two runs of SE90, or of SE99: the steps of phase one keep them in step, and how they end. Phase two changes neither the tied nor the
 -- phase-two step.
-use mathlib.Core.Path.{_≡_, refl, sym, ap, ap₂, _∙_, subst}
+use mathlib.Core.Path.{_≡_, refl, sym, ap, _∙_, subst}
 use mathlib.Core.List.{List, []}
 use mathlib.Core.Bool.{Bool, true, false}
 use Prim.Native.Nat.{ℕ, suc, _+_, _<_}
@@ -12,14 +12,14 @@ use lib.Ieee.{Float, binary64, fits}
 use lib.Ieee.Fits.{cond-fits, sub-fits, div-fits}
 use Rattle.arithmetic.specs.Double.{_⊗_, _⊘_, plus-zero}
 use Rattle.arithmetic.proofs.OrderLaws.{finite-number}
-use Rattle.arithmetic.specs.Sqrt.{sqrt}
+use Rattle.arithmetic.specs.Sqrt.{sqrt, inexact}
 use Rattle.arithmetic.proofs.Nearest.{sqrt-fits}
 use Rattle.matrix.specs.Matrix.{at}
 use Rattle.matrix.proofs.EntryLaws.{Entries}
 use Rattle.matrix.proofs.SwapLaws.{transpose, transpose-lt}
 use Rattle.arithmetic.proofs.Cases.{Is, is, holds, fails}
 use Rattle.matrix.proofs.Bijection.{Bijection, Fixes, bijection-from}
-use Rattle.methods.specs.Progress.{searched, left, stored}
+use Rattle.methods.specs.Progress.{searched, left, stored, counted, oneIf}
 use Rattle.methods.specs.Result.{identity}
 use Rattle.methods.specs.Statements.{diagonalMax, diagonal, pick, pivotMatrix, pivotList, eliminate, blockFinite, lowerTriangle, reorder}
 use Rattle.methods.specs.Se.{Run, start, leavesBefore, leavesAfter, leave, pivot, factorize, stepAt, phaseOneStep, inPhaseOne, phaseOne, phaseTwoStepAt, pairOf, oneOf, addPair, addOne, lastPair, lastOne, begin, phaseTwoAfter, phaseTwo, run}
@@ -35,7 +35,7 @@ use Rattle.methods.proofs.Stopped.{Going}
 use Rattle.methods.proofs.SeRuns.{KeptInPhaseTwo, phaseTwo-keeps}
 use Rattle.methods.proofs.Loaded.{Good, Loaded, gamma-same}
 use Rattle.methods.proofs.LoadOrders.{order}
-use Rattle.load_order.proofs.Positions.{Pivoted, earlier, loaded-positions, same-pivots, same-amounts}
+use Rattle.load_order.proofs.Positions.{Pivoted, corner, earlier, loaded-positions, same-pivots, same-amounts}
 use Rattle.load_order.proofs.Picks.{Searches, without-numbers, diagonal-picks-first}
 use Rattle.load_order.proofs.Lockstep.{Steps, InStep, Together, Runs, Laws, runs}
 use Rattle.load_order.proofs.OwnSteps.{OrderLaws, Own, own}
@@ -131,6 +131,10 @@ module _ (v : Variant) (t : Tolerances) (gamma : Float) (n : ℕ) (s : ℕ → �
   M₂ : Moved n σ₁ (eliminate n j lA) (eliminate n j lB)
   M₂ = eliminate-moved n j σ₁ τ₁ lA lB (W .here) P₁ f₁ M₁ s₁
 
+  -- of the step's root
+  operand : at n lA j j ≡ at n lB j j
+  operand = corner W M₁
+
   leaves : leavesAfter v t gamma n j lA ≡ leavesAfter v t gamma n j lB
   leaves = leavesAfter-along v t gamma n j σ₁ τ₁ lA lB (W .here) P₁ f₁ M₁ s₁
 
@@ -150,7 +154,7 @@ module _ (v : Variant) (t : Tolerances) (gamma : Float) (n : ℕ) (s : ℕ → �
         });
       })
       go (fails p) = rw (p, sym leaves ∙ p) (record {
-        same = ap₂ (λ (ok : Bool) (r : Progress). stored ok j (searched tie j r)) blocks same;
+        same = λ i. stored (blocks i) j (counted (oneIf (inexact (operand i))) (searched tie j (same i)));
         in-step = λ e. rw (G .phase2) (record {
           positions = W .next;
           values = record {

@@ -17,6 +17,7 @@ use Rattle.methods.specs.declared.decomposition.Mark.the-variants.{Never}
 -- what is alike of two whole results
 pub record AlikeThroughout (n : ℕ) (s : List ℕ) (first second : Result) : Type 0 where
   pub outcome : first .decomposition .outcome ≡ second .decomposition .outcome
+  pub inexact : first .decomposition .inexact ≡ second .decomposition .inexact
   pub factors : first .l ≡ second .l
   pub amounts : (i : ℕ) → i < n → getD (second .e) i nan ≡ getD (first .e) (getD s i 0) nan
   pub pivots : first .decomposition .outcome ≡ Complete → (t : ℕ) → t < n → getD (first .p) t 0 ≡ getD s (getD (second .p) t 0) 0

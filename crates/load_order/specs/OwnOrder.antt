@@ -16,7 +16,7 @@ use Rattle.methods.specs.declared.decomposition.Mark.the-variants.{Never}
 
 -- what a run hands back, and the one on the matrix reloaded by its p
 pub record OwnOrder (n : ℕ) (first second : Result) : Type 0 where
-  -- the same outcome, tied step and phase-two step
+  -- the same outcome, tied step, phase-two step and count of inexact roots
   pub decomposition : second .decomposition ≡ first .decomposition
   pub factors : second .l ≡ first .l
   pub amounts : (t : ℕ) → t < n → getD (second .e) t nan ≡ getD (first .e) (getD (first .p) t 0) nan

@@ -13,9 +13,9 @@ use Rattle.arithmetic.specs.Loop.{range}
 use Rattle.arithmetic.proofs.LoopLaws.{range-none}
 use Rattle.matrix.specs.Matrix.{at, put, zeros}
 use Rattle.arithmetic.proofs.Cases.{Is, is, holds, fails}
-use Rattle.methods.specs.Gmw81.{foldOffDiagonal, foldRow, offDiagonalMax, Run, start, divideRow, dot, column, thetaOf, updateDiagonal, storedFinite, stepAt, c₂Of, djOf, step, doutOf, unitLower, product, scaledFinite, finish}
+use Rattle.methods.specs.Gmw81.{foldOffDiagonal, foldRow, offDiagonalMax, Run, start, divideRow, dot, column, thetaOf, updateDiagonal, storedFinite, stepAt, c₂Of, djOf, step, doutOf, inexactRoots, unitLower, product, scaledFinite, finish}
 use Rattle.methods.specs.Marks.{marked}
-use Rattle.methods.specs.Progress.{begun, searched, stored, stopped}
+use Rattle.methods.specs.Progress.{begun, searched, stored, counted, stopped}
 use Rattle.methods.specs.Result.{identity}
 use Rattle.methods.specs.Statements.{largerMagnitude, diagonal, pick, pivotMatrix, pivotList, reorder}
 
@@ -101,7 +101,7 @@ module _ (n : ℕ) (s : Run) where
     d = s .d;
     e = reorder n (s .p) (s .e);
     p = s .p;
-    progress = stored (scaledFinite n (doutOf n (s .d)) (product n (unitLower n (s .l)) (doutOf n (s .d)))) n (s .progress);
+    progress = stored (scaledFinite n (doutOf n (s .d)) (product n (unitLower n (s .l)) (doutOf n (s .d)))) n (counted (inexactRoots n (s .d)) (s .progress));
   }
   unfolding finish
   finish-goes h = rw h

@@ -29,4 +29,5 @@ pub mod Answers
 pub mod SeLaws
 pub mod Stopped
 pub mod SeRuns
+pub mod Counts
 pub mod AcceptedCalls

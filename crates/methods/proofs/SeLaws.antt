@@ -2,7 +2,7 @@
 use mathlib.Core.Path.{_≡_, refl, ap, _∙_}
 use mathlib.Core.Bool.{Bool, true, false, cond, _&&_}
 use mathlib.Core.List.{List}
-use Prim.Native.Nat.{ℕ, _-_, _≤_, _<_}
+use Prim.Native.Nat.{ℕ, _-_, _<_}
 use native.Mathlib.Omega.{arith}
 use lib.ListN.{length}
 use lib.Dec.{eqb}
@@ -113,13 +113,13 @@ pub run-is : (v : Variant) (t : Tolerances) (numbers : List ℕ) (n : ℕ) (a : 
 unfolding run
 run-is v t numbers n a = refl
 
-pub rows-of-pair : (v : Variant) (t : Tolerances) (gamma : Float) (n : ℕ) (l : List Float) (delta-prev : Float) (last : Last) → last ≡ pairOf v t gamma n l delta-prev → 2 ≤ n → rowsOf last ≤ n
+pub rows-of-pair : (v : Variant) (t : Tolerances) (gamma : Float) (n : ℕ) (l : List Float) (delta-prev : Float) (last : Last) → last ≡ pairOf v t gamma n l delta-prev → rowsOf last ≡ 2
 unfolding pairOf
-rows-of-pair v t gamma n l delta-prev last e h = rw e h
+rows-of-pair v t gamma n l delta-prev last e = rw e
 
-pub rows-of-one : (v : Variant) (t : Tolerances) (gamma : Float) (n : ℕ) (ljj : Float) (last : Last) → last ≡ oneOf v t gamma ljj → 1 ≤ n → rowsOf last ≤ n
+pub rows-of-one : (v : Variant) (t : Tolerances) (gamma ljj : Float) (last : Last) → last ≡ oneOf v t gamma ljj → rowsOf last ≡ 1
 unfolding oneOf
-rows-of-one v t gamma n ljj last e h = rw e h
+rows-of-one v t gamma ljj last e = rw e
 
 -- ---- marks of steps below n
 abbrev pub Below : ℕ → Mark → Type 0

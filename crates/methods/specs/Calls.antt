@@ -67,9 +67,13 @@ pub record Operands (n : ℕ) (a : List Float) (l work e p : ℕ) : Type 0 where
   pub e-is : e ≡ n
   pub p-is : p ≡ n
 
--- refused before the first step: no marks, every buffer untouched
+-- refused before the first step: no marks, no roots
+abbrev pub unstarted : Outcome → Decomposition
+unstarted outcome = record { outcome = outcome; tied = Never; phase2 = Never; inexact = 0 }
+
+-- .. and every buffer untouched
 abbrev pub untouched : Outcome → List Float → List Float → List Float → List ℕ → Call
-untouched outcome l work e p = call (record { outcome = outcome; tied = Never; phase2 = Never }) l work e p
+untouched outcome l work e p = call (unstarted outcome) l work e p
 
 -- after a run the work buffer is +0.0 throughout
 abbrev pub answered : ℕ → Result → Call

@@ -11,11 +11,11 @@ use lib.Ieee.Scale.{finite}
 use Rattle.arithmetic.specs.All.{all}
 use Rattle.arithmetic.specs.Double.{plus-zero, one, epsilon, _⊕_, _⊖_, _⊗_, _⊘_, square, abs, max}
 use Rattle.arithmetic.specs.Loop.{range}
-use Rattle.arithmetic.specs.Sqrt.{sqrt}
+use Rattle.arithmetic.specs.Sqrt.{sqrt, inexact}
 use Rattle.matrix.specs.Matrix.{at, put, zeros}
 use Rattle.matrix.specs.Table.{table}
 use Rattle.methods.specs.Marks.{marked}
-use Rattle.methods.specs.Progress.{begun, searched, stored, stopped}
+use Rattle.methods.specs.Progress.{begun, searched, stored, counted, oneIf, stopped}
 use Rattle.methods.specs.Statements.{largerMagnitude, diagonalMax, diagonal, pick, pivotMatrix, pivotList, lowerTriangle, reorder}
 use Rattle.methods.specs.Result.{Result, identity, handBack}
 use Rattle.methods.specs.declared.gmw81.StepValues.{StepValues}
@@ -160,6 +160,14 @@ unfoldable pub doutOf : ℕ → List Float → List Float
 unfolding table sqrt
 doutOf n d = table (n * n) (λ k. cond (eqb (k / n) (k % n)) (sqrt (getD d (k / n) nan)) plus-zero)
 
+-- how many of these roots are inexact
+abbrev pub countRoot : List Float → ℕ → ℕ → ℕ
+countRoot d i k = k + oneIf (inexact (getD d i nan))
+
+unfoldable pub inexactRoots : ℕ → List Float → ℕ
+unfolding range inexact
+inexactRoots n d = range 0 n (countRoot d) 0
+
 -- l.diag_mut().assign(&ones), and the strict upper part +0.0
 unfoldable pub unitLower : ℕ → List Float → List Float
 unfolding range lowerTriangle
@@ -176,7 +184,7 @@ unfolding all
 scaledFinite n dout l = all 0 (n * n) (λ k. finite (getD dout k nan)) && all 0 (n * n) (λ k. finite (getD l k nan))
 
 unfoldable pub finish : ℕ → Run → Run
-unfolding doutOf unitLower product scaledFinite reorder
+unfolding doutOf inexactRoots unitLower product scaledFinite reorder
 finish n s =
     let dout = doutOf n (s .d) in
     let l = product n (unitLower n (s .l)) dout in
@@ -186,7 +194,7 @@ finish n s =
       d = s .d;
       e = reorder n (s .p) (s .e);
       p = s .p;
-      progress = stored (scaledFinite n dout l) n (s .progress);
+      progress = stored (scaledFinite n dout l) n (counted (inexactRoots n (s .d)) (s .progress));
     } in
     cond (marked (s .progress .refused)) s next
 

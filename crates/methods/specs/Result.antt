@@ -34,9 +34,14 @@ abbrev pub filledOrder : Mark → ℕ → List ℕ → List ℕ
 filledOrder Never n p = p
 filledOrder (Step j) n p = identity n
 
+-- .. and 0 for the count of inexact roots
+abbrev pub filledCount : Mark → ℕ → ℕ
+filledCount Never inexact = inexact
+filledCount (Step j) inexact = 0
+
 -- what is reported of a run's progress
 abbrev pub reported : Progress → Decomposition
-reported r = record { outcome = outcomeOf (r .refused); tied = r .tied; phase2 = r .phase2 }
+reported r = record { outcome = outcomeOf (r .refused); tied = r .tied; phase2 = r .phase2; inexact = filledCount (r .refused) (r .inexact) }
 
 abbrev pub handBack : ℕ → Progress → List Float → List Float → List ℕ → Result
 handBack n r l e p = record {

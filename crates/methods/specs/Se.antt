@@ -11,16 +11,17 @@ use lib.Ieee.Scale.{finite}
 use Rattle.arithmetic.specs.All.{all}
 use Rattle.arithmetic.specs.Double.{plus-zero, one, epsilon, _⊕_, _⊖_, _⊗_, _⊘_, square, abs, max}
 use Rattle.arithmetic.specs.Loop.{range}
-use Rattle.arithmetic.specs.Sqrt.{sqrt}
+use Rattle.arithmetic.specs.Sqrt.{sqrt, inexact}
 use Rattle.matrix.specs.Matrix.{at, put, zeros}
 use Rattle.matrix.specs.Table.{table}
 use Rattle.matrix.specs.Eigenvalues.{eigenvaluesOf}
 use Rattle.matrix.specs.declared.utils.Eigen.{Eigen}
 use Rattle.methods.specs.Marks.{marked}
-use Rattle.methods.specs.Progress.{begun, searched, left, stored, kept, stopped}
+use Rattle.methods.specs.Progress.{begun, searched, left, stored, counted, oneIf, kept, stopped}
 use Rattle.methods.specs.Statements.{diagonalMax, diagonal, pick, pivotMatrix, pivotList, eliminate, lowerTriangle, reorder, blockFinite}
 use Rattle.methods.specs.Result.{Result, identity, handBack}
 use Rattle.methods.specs.declared.progress.Progress.{Progress}
+use Rattle.methods.specs.declared.progress.Stores.{Stores}
 use Rattle.methods.specs.declared.schnabel_eskow.Tolerances.{Tolerances}
 use Rattle.methods.specs.declared.schnabel_eskow.Variant.{Variant}
 use Rattle.methods.specs.declared.schnabel_eskow.Variant.the-variants.{Se90, Se99}
@@ -92,12 +93,16 @@ unfoldable pub pivot : ℕ → ℕ → ℕ → Bool → Run → Run
 unfolding pivotMatrix pivotList
 pivot n j max-idx tie s = state (pivotMatrix n j max-idx (s .l)) (s .e) (s .g) (pivotList 0 j max-idx (s .p)) (searched tie j (s .progress))
 
+-- the root taken on the diagonal in step j, where it is inexact
+abbrev pub countedAt : ℕ → ℕ → List Float → Progress → Progress
+countedAt n j l r = counted (oneIf (inexact (at n l j j))) r
+
 -- the jth iteration of the factorization: it stores rows and columns j to n - 1
 unfoldable pub factorize : ℕ → ℕ → Run → Run
-unfolding eliminate blockFinite
+unfolding eliminate blockFinite inexact
 factorize n j s =
     let l = eliminate n j (s .l) in
-    state l (s .e) (s .g) (s .p) (stored (blockFinite n j l) j (s .progress))
+    state l (s .e) (s .g) (s .p) (stored (blockFinite n j l) j (countedAt n j (s .l) (s .progress)))
 
 -- the step after its first test, with the pivot and whether its search was tied
 unfoldable pub stepAt : Variant → Tolerances → Float → ℕ → ℕ → ℕ → Bool → Run → Run
@@ -173,7 +178,7 @@ stepStored n j normj ej sum g l = finite normj && finite ej && finite sum && all
 
 -- the jth step of phase two with the pivot max_idx after j
 unfoldable pub phaseTwoStepAt : Variant → Tolerances → Float → ℕ → ℕ → ℕ → Run → Run
-unfolding pivotMatrix pivotList columnSum amount updateBounds eliminate all blockFinite lt
+unfolding pivotMatrix pivotList columnSum amount updateBounds eliminate all blockFinite inexact lt
 phaseTwoStepAt v t gamma n j max-idx s =
     let l₁ = pivotMatrix n j max-idx (s .l) in
     let g₁ = pivotList nan j max-idx (s .g) in
@@ -182,7 +187,7 @@ phaseTwoStepAt v t gamma n j max-idx s =
     let l₂ = put n l₁ j j (added (at n l₁ j j) ej) in
     let g₂ = updateBounds n j l₂ normj g₁ in
     let l₃ = eliminate n j l₂ in
-    state l₃ (set (s .e) j ej) g₂ (pivotList 0 j max-idx (s .p)) (stored (stepStored n j normj ej (at n l₂ j j) g₂ l₃) j (kept ej (s .progress)))
+    state l₃ (set (s .e) j ej) g₂ (pivotList 0 j max-idx (s .p)) (stored (stepStored n j normj ej (at n l₂ j j) g₂ l₃) j (countedAt n j l₂ (kept ej (s .progress))))
 
 -- its two halves between the pivot and the end, as the code hands them on: the addition, from l to l', and the rest
 pub record AmountAdded (v : Variant) (t : Tolerances) (gamma delta-prev : Float) (n j : ℕ) (l l' : List Float) (normj ej sum : Float) : Type 0 where
@@ -191,10 +196,11 @@ pub record AmountAdded (v : Variant) (t : Tolerances) (gamma delta-prev : Float)
   pub sum-is : sum ≡ added (at n l j j) ej
   pub l-is : l' ≡ put n l j j sum
 
-pub record AddedEliminated (n j : ℕ) (normj ej sum : Float) (l g l' g' : List Float) (ok : Bool) : Type 0 where
+pub record AddedEliminated (n j : ℕ) (normj ej sum : Float) (l g l' g' : List Float) (r : Stores) : Type 0 where
   pub g-is : g' ≡ updateBounds n j l normj g
   pub l-is : l' ≡ eliminate n j l
-  pub ok-is : ok ≡ stepStored n j normj ej sum g' l'
+  pub ok-is : r .ok ≡ stepStored n j normj ej sum g' l'
+  pub inexact-is : r .inexact ≡ oneIf (inexact (at n l j j))
 
 -- index_of_largest(&g.slice(s![j..])); nothing once the run is refused
 unfoldable pub phaseTwoStep : Variant → Tolerances → List ℕ → Float → ℕ → ℕ → Run → Run
@@ -232,17 +238,25 @@ rootAbove n l = put n l (n - 2) (n - 2) (sqrt (at n l (n - 2) (n - 2)))
 abbrev pub quotientBelow : ℕ → List Float → List Float
 quotientBelow n l = put n l (n - 1) (n - 2) (at n l (n - 1) (n - 2) ⊘ at n l (n - 2) (n - 2))
 
-abbrev pub rootBelow : ℕ → List Float → List Float
-rootBelow n l = put n l (n - 1) (n - 1) (sqrt (at n l (n - 1) (n - 1) ⊖ square (at n l (n - 1) (n - 2))))
+abbrev pub operandBelow : ℕ → List Float → Float
+operandBelow n l = at n l (n - 1) (n - 1) ⊖ square (at n l (n - 1) (n - 2))
 
--- .. as the code hands it on, from l to l'; ok: whether what it stored is finite
-pub record PairFactorized (n : ℕ) (l l' : List Float) (ok : Bool) : Type 0 where
+abbrev pub rootBelow : ℕ → List Float → List Float
+rootBelow n l = put n l (n - 1) (n - 1) (sqrt (operandBelow n l))
+
+-- how many of its two roots are inexact: of the first in l, and of the second after the quotient, in l'
+abbrev pub inexactPair : ℕ → List Float → List Float → ℕ
+inexactPair n l l' = oneIf (inexact (at n l (n - 2) (n - 2))) + oneIf (inexact (operandBelow n l'))
+
+-- .. as the code hands it on, from l to l'
+pub record PairFactorized (n : ℕ) (l l' : List Float) (r : Stores) : Type 0 where
   pub l-is : l' ≡ rootBelow n (quotientBelow n (rootAbove n l))
-  pub ok-is : ok ≡ (finite (at n (rootAbove n l) (n - 2) (n - 2)) && finite (at n (quotientBelow n (rootAbove n l)) (n - 1) (n - 2)) && finite (at n l' (n - 1) (n - 1)))
+  pub inexact-is : r .inexact ≡ inexactPair n l (quotientBelow n (rootAbove n l))
+  pub ok-is : r .ok ≡ (finite (at n (rootAbove n l) (n - 2) (n - 2)) && finite (at n (quotientBelow n (rootAbove n l)) (n - 1) (n - 2)) && finite (at n l' (n - 1) (n - 1)))
 
 -- the pair's amount is added to both rows, and the block is factorized: step n - 2
 unfoldable pub addPair : ℕ → Eigen → Float → Run → Run
-unfolding lt sqrt
+unfolding lt sqrt inexact
 addPair n x ea s =
     let a = n - 2 in
     let b = n - 1 in
@@ -252,17 +266,17 @@ addPair n x ea s =
     let l₄ = quotientBelow n l₃ in
     let l₅ = rootBelow n l₄ in
     let ok = finite (x .hi) && finite (x .lo) && finite ea && finite (at n l₂ a a) && finite (at n l₂ b b) && finite (at n l₃ a a) && finite (at n l₄ b a) && finite (at n l₅ b b) in
-    state l₅ (set (set (s .e) a ea) b ea) (s .g) (s .p) (stored ok a (s .progress))
+    state l₅ (set (set (s .e) a ea) b ea) (s .g) (s .p) (stored ok a (counted (inexactPair n l₂ l₄) (s .progress)))
 
 -- the one amount is added to the last row, and its root taken: step n - 1
 unfoldable pub addOne : ℕ → Float → Run → Run
-unfolding sqrt
+unfolding sqrt inexact
 addOne n ej s =
     let j = n - 1 in
     let l₁ = put n (s .l) j j (at n (s .l) j j ⊕ ej) in
     let l₂ = put n l₁ j j (sqrt (at n l₁ j j)) in
     let ok = finite ej && finite (at n l₁ j j) && finite (at n l₂ j j) in
-    state l₂ (set (s .e) j ej) (s .g) (s .p) (stored ok j (s .progress))
+    state l₂ (set (s .e) j ej) (s .g) (s .p) (stored ok j (countedAt n j l₁ (s .progress)))
 
 -- what phase two adds last, by its cases
 abbrev pub addLast : ℕ → Last → Run → Run

@@ -1,6 +1,7 @@
 // What a factorization hands back beside the factor, the amounts and the pivot order.
 ghost use mathlib.Core.Path.{_≡_};
 ghost use Rattle.methods.specs.Marks.{mark, marked};
+ghost use Rattle.methods.specs.Result.{filledCount};
 use arithmetic::outcome::Outcome;
 
 // A step, or none: the first one stays.
@@ -24,6 +25,16 @@ impl Mark {
         }
     }
 
+    // A count, 0 beside the refusal that this marks.
+    pub fn filled_count(self, inexact: usize) -> usize
+        ensures { λ r. ⌜ r ≡ filledCount self inexact ⌝ }
+    {
+        match self {
+            Mark::Never => inexact,
+            Mark::Step(_) => 0,
+        }
+    }
+
     pub fn marked(self) -> bool
         ensures { λ r. ⌜ r ≡ marked self ⌝ }
     {
@@ -41,4 +52,6 @@ pub struct Decomposition {
     pub tied: Mark,
     // The step at which SE90 or SE99 left phase one.
     pub phase2: Mark,
+    // How many of the n diagonal roots are inexact; 0 beside a refusal.
+    pub inexact: usize,
 }

@@ -1,6 +1,7 @@
 // What a run of any method holds beside its lists. Its changes stand here alone, so that the runs need not name its fields.
 ghost use mathlib.Core.Path.{_≡_};
-ghost use Rattle.methods.specs.Progress.{begun, searched, left, stored, kept, stopped};
+ghost use Prim.Native.Nat.{_+_, _≤_};
+ghost use Rattle.methods.specs.Progress.{begun, searched, left, stored, counted, oneIf, kept, stopped};
 use crate::decomposition::Mark;
 
 pub struct Progress {
@@ -12,6 +13,20 @@ pub struct Progress {
     pub phase2: Mark,
     // The first step that stored a value that isn't finite.
     pub refused: Mark,
+    // How many of the diagonal roots taken so far are inexact.
+    pub inexact: usize,
+}
+
+// What a step stored: whether it is finite, and how many of its roots are inexact.
+pub struct Stores {
+    pub ok: bool,
+    pub inexact: usize,
+}
+
+pub fn one_if(flag: bool) -> usize
+    ensures { λ r. ⌜ r ≡ oneIf flag ⌝ }
+{
+    if flag { 1 } else { 0 }
 }
 
 impl Progress {
@@ -23,6 +38,7 @@ impl Progress {
             tied: Mark::Never,
             phase2: Mark::Never,
             refused: Mark::Never,
+            inexact: 0,
         }
     }
 
@@ -38,6 +54,7 @@ impl Progress {
             tied: tied.mark(tie, j),
             phase2,
             refused,
+            inexact: self.inexact,
         }
     }
 
@@ -53,6 +70,7 @@ impl Progress {
             tied,
             phase2: phase2.mark(true, j),
             refused,
+            inexact: self.inexact,
         }
     }
 
@@ -68,6 +86,24 @@ impl Progress {
             tied,
             phase2,
             refused: refused.mark(!ok, j),
+            inexact: self.inexact,
+        }
+    }
+
+    // k of the diagonal roots just taken are inexact.
+    pub fn counted(self, k: usize) -> Progress
+        requires { ⌜ self .inexact + k ≤ 48 ⌝ }
+        ensures { λ r. ⌜ r ≡ counted k self ⌝ }
+    {
+        let tied = self.tied;
+        let phase2 = self.phase2;
+        let refused = self.refused;
+        Progress {
+            delta_prev: self.delta_prev,
+            tied,
+            phase2,
+            refused,
+            inexact: self.inexact + k,
         }
     }
 
@@ -83,6 +119,7 @@ impl Progress {
             tied,
             phase2,
             refused,
+            inexact: self.inexact,
         }
     }
 

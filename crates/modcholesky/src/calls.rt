@@ -3,9 +3,8 @@ ghost use mathlib.Core.Path.{_≡_};
 ghost use Prim.Native.Nat.{_*_, _≤_};
 ghost use lib.ListN.{length};
 ghost use Rattle.methods.specs.Result.{handBack, outcomeOf};
-ghost use Rattle.methods.specs.Calls.{call, answered, check-method, number-checks, operandChain, operand-checks, factor-checks, callWith, factor-call, factor-numbered-call, Operands};
+ghost use Rattle.methods.specs.Calls.{call, unstarted, answered, check-method, number-checks, operandChain, operand-checks, factor-checks, callWith, factor-call, factor-numbered-call, Operands};
 ghost use Rattle.methods.specs.Factor.{factor, tolerances};
-ghost use Rattle.methods.specs.declared.decomposition.Mark.the-variants.{Never};
 use crate::gmw81;
 use crate::se;
 use arithmetic::outcome::Outcome;
@@ -115,12 +114,13 @@ fn factor_checks(
 
 // Refused before the first step.
 pub fn untouched(outcome: Outcome) -> Decomposition
-    ensures { λ r. ⌜ r ≡ record { outcome = outcome; tied = Never; phase2 = Never } ⌝ }
+    ensures { λ r. ⌜ r ≡ unstarted outcome ⌝ }
 {
     Decomposition {
         outcome,
         tied: Mark::Never,
         phase2: Mark::Never,
+        inexact: 0,
     }
 }
 
@@ -158,6 +158,7 @@ pub fn hand_back(
         outcome: outcome_of(refused),
         tied,
         phase2,
+        inexact: refused.filled_count(r.inexact),
     }
 }
 

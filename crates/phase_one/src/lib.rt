@@ -2,7 +2,7 @@
 ghost use mathlib.Core.Path.{_≡_};
 ghost use mathlib.Core.List.{List};
 ghost use mathlib.Core.Bool.{cond};
-ghost use Prim.Native.Nat.{ℕ, _+_, _*_, _<_};
+ghost use Prim.Native.Nat.{ℕ, _+_, _*_, _≤_, _<_};
 ghost use lib.ListN.{length};
 ghost use lib.Ieee.{Float, lt};
 ghost use Rattle.matrix.specs.Matrix.{Square};
@@ -152,7 +152,7 @@ fn step_at(
     r: Progress,
 ) -> Progress
     requires { ⌜ Square n (now l) ⌝ }
-    requires { ⌜ (length (now p) ≡ n) × (j + «max_idx» < n) ⌝ }
+    requires { ⌜ (length (now p) ≡ n) × (j + «max_idx» < n) × (r .inexact ≤ j) ⌝ }
     ensures { λ q. ⌜ ((e g : List Float) → state (mirrored n (now (l .exit))) e g (now (p .exit)) q ≡ stepAt v t gamma n j «max_idx» tie (state (mirrored n (now (l .entry))) e g (now (p .entry)) r)) ⌝ }
 {
     pivot(l, p, n, j, max_idx);
@@ -163,14 +163,14 @@ fn step_at(
     factorize(l, n, j, pivoted)
 }
 
-// The jth iteration of the factorization.
+// The jth iteration of the factorization: a step counts one root at most.
 fn factorize(l: &mut [f64], n: usize, j: usize, r: Progress) -> Progress
     requires { ⌜ Square n (now l) ⌝ }
-    requires { ⌜ j < n ⌝ }
+    requires { ⌜ (j < n) × (r .inexact ≤ j) ⌝ }
     ensures { λ q. ⌜ ((e g : List Float) (p : List ℕ) → state (mirrored n (now (l .exit))) e g p q ≡ factorize n j (state (mirrored n (now (l .entry))) e g p r)) ⌝ }
 {
-    let ok = statements::eliminate(l, n, j);
-    r.stored(ok, j)
+    let stores = statements::eliminate(l, n, j);
+    r.counted(stores.inexact).stored(stores.ok, j)
 }
 
 fn phase_one_step(
@@ -186,7 +186,7 @@ fn phase_one_step(
     r: Progress,
 ) -> Progress
     requires { ⌜ Square n (now l) ⌝ }
-    requires { ⌜ (length (now p) ≡ n) × (length (now diag) ≡ n) × (j < n) ⌝ }
+    requires { ⌜ (length (now p) ≡ n) × (length (now diag) ≡ n) × (j < n) × (r .inexact ≤ j) ⌝ }
     ensures { λ q. ⌜ ((e g : List Float) → state (mirrored n (now (l .exit))) e g (now (p .exit)) q ≡ phaseOneStep v t (now (numbers .entry)) gamma n j (state (mirrored n (now (l .entry))) e g (now (p .entry)) r)) ⌝ }
 {
     if leaves_before(v, t, gamma, l, n, j) {
@@ -208,7 +208,7 @@ pub fn phase_one(
     r: Progress,
 ) -> Progress
     requires { ⌜ Square n (now l) ⌝ }
-    requires { ⌜ (length (now p) ≡ n) × (length (now diag) ≡ n) ⌝ }
+    requires { ⌜ (length (now p) ≡ n) × (length (now diag) ≡ n) × (r .inexact ≡ 0) ⌝ }
     ensures { λ q. ⌜ ((e g : List Float) → state (mirrored n (now (l .exit))) e g (now (p .exit)) q ≡ phaseOne v t (now (numbers .entry)) gamma n (state (mirrored n (now (l .entry))) e g (now (p .entry)) r)) ⌝ }
 {
     let mut q = r;

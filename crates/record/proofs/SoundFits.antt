@@ -42,6 +42,7 @@ sound-fits : (n : ℕ) (r : Result) → 0 < n → n ≤ 48 → Sound n r → Pla
 sound-fits n r np h s t = record {
   marks = (λ j e. omega (arith, s .marks .tied-below j e), λ j e. omega (arith, s .marks .phase2-below j e));
   placed = t;
+  count = omega (arith, s .count .most);
   order = λ k q. omega (arith, s .permutation .len, s .permutation .below k (omega (arith, s .permutation .len)));
   amounts = λ k q. s .amounts .finite-amounts k (omega (arith, s .amounts .len));
   factor = each-entry n (r .l) np (s .lower .len) (s .lower .finite-entries);
@@ -65,6 +66,7 @@ refused-fits : (o : Outcome) → PlaceFits (place o) → Fits (refused o)
 refused-fits o t = record {
   marks = (λ j e. absurd (never j e), λ j e. absurd (never j e));
   placed = t;
+  count = omega arith;
   order = λ k q. absurd (omega arith);
   amounts = λ k q. absurd (omega arith);
   factor = λ k q. absurd (omega arith);

@@ -12,8 +12,7 @@ use Rattle.matrix.specs.Matrix.{Square}
 use Rattle.matrix.specs.Checks.{check-symmetric, AllFinite}
 use Rattle.methods.specs.Result.{Result}
 use Rattle.methods.specs.Factor.{factor, tolerances}
-use Rattle.methods.specs.Calls.{Call, methodOf, answered, untouched}
-use Rattle.methods.specs.declared.decomposition.Mark.the-variants.{Never}
+use Rattle.methods.specs.Calls.{Call, methodOf, unstarted, answered, untouched}
 use Rattle.encoding.specs.Bytes.{numbers, doubles}
 use Rattle.record.specs.MatrixRecord.{request, numbersOf, matrixOf, record-checks}
 use Rattle.answer_record.specs.AnswerRecord.{longestAnswer, answer-record}
@@ -24,7 +23,7 @@ use Rattle.record.specs.declared.read.Request.{Request}
 
 -- refused before the first step
 abbrev pub refused : Outcome → Result
-refused outcome = record { decomposition = record { outcome = outcome; tied = Never; phase2 = Never }; l = []; e = []; p = [] }
+refused outcome = record { decomposition = unstarted outcome; l = []; e = []; p = [] }
 
 -- what a record's checks and run end with, where the answer's buffer has its own length
 unfoldable pub resultOf : List ℕ → Result

@@ -7,19 +7,23 @@ ghost use lib.Dec.{ltb};
 ghost use lib.Ieee.{nan};
 ghost use lib.Ieee.Scale.{finite};
 ghost use Rattle.arithmetic.specs.Double.{_⊘_};
+ghost use Rattle.arithmetic.specs.Sqrt.{inexact};
 ghost use Rattle.matrix.specs.Matrix.{Square, at};
 ghost use Rattle.matrix.specs.Plain.{AllBelow};
 ghost use Rattle.methods.specs.Statements.{largerMagnitude, diagonalMax, diagonal, numberAt, smallestNumber, pick, pivotMatrix, pivotList, eliminate, clearAfter, lowerTriangle, reorder, blockFinite};
 ghost use Rattle.methods.specs.Elimination.{mirrored, swapLeft, swapBetween, swapBelow, RowWritten, ColumnWritten, RowsEliminated, subtracted};
+ghost use Rattle.methods.specs.Progress.{oneIf, stores};
 ghost use Rattle.methods.specs.Result.{identity};
 use arithmetic::double::abs;
 use arithmetic::double::finite;
-use arithmetic::sqrt::sqrt_unchecked;
+use arithmetic::sqrt::sqrt_flagged;
 use matrix::entries::cell;
 use matrix::entries::get;
 use matrix::entries::put;
 use matrix::utils;
 use matrix::utils::Found;
+use methods::progress::Stores;
+use methods::progress::one_if;
 
 // ---- folds
 
@@ -276,18 +280,22 @@ fn eliminate_rows(l: &mut [f64], n: usize, j: usize, column: &[f64]) -> bool
     ok
 }
 
-// The whole iteration; whether rows and columns j to n - 1 are finite then.
-pub fn eliminate(l: &mut [f64], n: usize, j: usize) -> bool
+// The whole iteration; whether rows and columns j to n - 1 are finite then, and whether its root is inexact.
+pub fn eliminate(l: &mut [f64], n: usize, j: usize) -> Stores
     requires { ⌜ Square n (now l) ⌝ }
     requires { ⌜ j < n ⌝ }
-    ensures { λ r. ⌜ (mirrored n (now (l .exit)) ≡ eliminate n j (mirrored n (now (l .entry)))) × (r ≡ blockFinite n j (mirrored n (now (l .exit)))) ⌝ }
+    ensures { λ r. ⌜ mirrored n (now (l .exit)) ≡ eliminate n j (mirrored n (now (l .entry))) ⌝ }
+    ensures { λ r. ⌜ r ≡ stores (blockFinite n j (mirrored n (now (l .exit)))) (oneIf (inexact (at n (mirrored n (now (l .entry))) j j))) ⌝ }
 {
-    let root = sqrt_unchecked(get(l, n, j, j));
-    put(l, n, j, j, root);
+    let root = sqrt_flagged(get(l, n, j, j));
+    put(l, n, j, j, root.value);
     let mut column = [0.0; 48];
-    let divided = divide_column(l, n, j, root, &mut column);
+    let divided = divide_column(l, n, j, root.value, &mut column);
     let rows = eliminate_rows(l, n, j, &column);
-    both(both(finite(root), divided), rows)
+    Stores {
+        ok: both(both(finite(root.value), divided), rows),
+        inexact: one_if(root.inexact),
+    }
 }
 
 // ---- at the end

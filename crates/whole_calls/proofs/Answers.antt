@@ -13,7 +13,7 @@ use Rattle.load_order.specs.LoadOrder.{AlikeThroughout, Alike}
 use Rattle.load_order.specs.Numbered.{OnePhase, NumberedAlike}
 use Rattle.whole_calls.specs.ReadBackTheorem.{shown}
 
-kept : (r : Result) → shown r .decomposition ≡ r .decomposition
+pub kept : (r : Result) → shown r .decomposition ≡ r .decomposition
 kept r = elim (is (complete (r .decomposition .outcome))) [ holds e ↦ rw e | fails e ↦ rw e ]
 
 module _ (n : ℕ) (s : List ℕ) (A B : Result) where
@@ -25,7 +25,7 @@ module _ (n : ℕ) (s : List ℕ) (A B : Result) where
 
       go : Is (complete (A .decomposition .outcome)) → AlikeThroughout n s (shown A) (shown B)
       go (holds e) = rw (e, second ∙ e) T
-      go (fails e) = rw (e, second ∙ e) (record { outcome = T .outcome; factors = refl; amounts = λ i h. refl; pivots = λ c. absurd (true≢false (sym (ap complete c) ∙ e)) })
+      go (fails e) = rw (e, second ∙ e) (record { outcome = T .outcome; inexact = T .inexact; factors = refl; amounts = λ i h. refl; pivots = λ c. absurd (true≢false (sym (ap complete c) ∙ e)) })
 
   shown-tied : A .decomposition .tied ≡ B .decomposition .tied → shown A .decomposition .tied ≡ shown B .decomposition .tied
   shown-tied e = ap (λ (d : Decomposition). d .tied) (kept A) ∙ e ∙ sym (ap (λ (d : Decomposition). d .tied) (kept B))

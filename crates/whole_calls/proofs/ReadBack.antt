@@ -1,4 +1,5 @@
--- An answer record read back gives the answer: its fields, and then the result, whole where it is complete, and without L, e and p where it is refused.
+-- An answer record read back gives the answer: its fields, and then the result, whole where it is complete, and without L, e and p where it
+-- is refused; a refusal's count of inexact roots is 0.
 use mathlib.Core.Path.{_≡_, refl, sym, ap, _∙_}
 use mathlib.Core.Bool.{true, false, cond}
 use mathlib.Core.List.{List, [], _∷_, _++_, append-assoc, append-nil}
@@ -15,7 +16,7 @@ use Rattle.methods.specs.declared.decomposition.Mark.{Mark}
 use Rattle.methods.specs.declared.decomposition.Mark.the-variants.{Never, Step}
 use Rattle.encoding.specs.Bytes.{bytes, doubles, doubleBytes}
 use Rattle.answer_record.specs.Field.{field}
-use Rattle.answer_record.specs.AnswerRecord.{stepByte, marksFields, factorFields, placeField, answer-record}
+use Rattle.answer_record.specs.AnswerRecord.{stepByte, marksFields, countField, factorFields, placeField, answer-record}
 use Rattle.answer_record.specs.Writing.{StepFits, Fits, result}
 use Rattle.whole_calls.specs.ReadBack.{Field, split, outcomeRead, markRead, resultRead, readAnswer}
 use Rattle.encoding.proofs.ByteLaws.{length-content}
@@ -33,7 +34,7 @@ withMarks r rest =
     fieldOf 0x11 (number (r .decomposition .outcome) ∷ []) ∷ fieldOf 0x12 (stepByte (r .decomposition .tied) ∷ []) ∷ fieldOf 0x13 (stepByte (r .decomposition .phase2) ∷ []) ∷ rest
 
 abbrev pub completeFields : Result → List Field
-completeFields r = withMarks r (fieldOf 0x14 (r .p) ∷ fieldOf 0x15 (doubleBytes (r .e)) ∷ fieldOf 0x16 (doubleBytes (r .l)) ∷ [])
+completeFields r = withMarks r (fieldOf 0x18 (r .decomposition .inexact ∷ []) ∷ fieldOf 0x14 (r .p) ∷ fieldOf 0x15 (doubleBytes (r .e)) ∷ fieldOf 0x16 (doubleBytes (r .l)) ∷ [])
 
 abbrev pub refusedFields : Result → List Field
 refusedFields r = let at = place (r .decomposition .outcome) in withMarks r (fieldOf 0x17 (at .row ∷ at .column ∷ []) ∷ [])
@@ -43,8 +44,8 @@ joined a b c = append-assoc a b c ∙ ap (λ (x : List ℕ). a ++ (b ++ x)) (sym
 
 module _ (r : Result) where
   complete-join : complete (r .decomposition .outcome) ≡ true → answer-record r ≡ join (completeFields r)
-  unfolding answer-record marksFields factorFields join bytes
-  complete-join c = rw c (ap (λ (x : List ℕ). marksFields (r .decomposition) ++ x) (joined (field 0x14 (r .p)) (field 0x15 (doubleBytes (r .e))) (field 0x16 (doubleBytes (r .l)))))
+  unfolding answer-record marksFields countField factorFields join bytes
+  complete-join c = rw c (ap (λ (x : List ℕ). marksFields (r .decomposition) ++ (countField (r .decomposition .inexact) ++ x)) (joined (field 0x14 (r .p)) (field 0x15 (doubleBytes (r .e))) (field 0x16 (doubleBytes (r .l)))))
 
   refused-join : complete (r .decomposition .outcome) ≡ false → answer-record r ≡ join (refusedFields r)
   unfolding answer-record marksFields placeField join bytes
@@ -53,7 +54,7 @@ module _ (r : Result) where
   longer : 12 ≤ length (answer-record r)
   unfolding answer-record
   longer =
-      let rest = cond (complete (r .decomposition .outcome)) (factorFields (r .p) (r .e) (r .l)) (placeField (place (r .decomposition .outcome))) in
+      let rest = cond (complete (r .decomposition .outcome)) (countField (r .decomposition .inexact) ++ factorFields (r .p) (r .e) (r .l)) (placeField (place (r .decomposition .outcome))) in
       omega (arith, length-append (marksFields (r .decomposition)) rest, length-marks (r .decomposition))
 
   -- the fields of a record that holds
@@ -64,7 +65,7 @@ module _ (r : Result) where
     pub complete-fields : complete (r .decomposition .outcome) ≡ true → split (length (answer-record r)) (answer-record r) ≡ completeFields r
     complete-fields c =
         fields-of (completeFields r) (complete-join c)
-        (omega arith, (omega arith, (omega arith, (omega arith, (omega (arith, length-content (r .e)), (omega (arith, length-content (r .l)), tt)))))) (omega arith)
+        (omega arith, (omega arith, (omega arith, (omega arith, (omega arith, (omega (arith, length-content (r .e)), (omega (arith, length-content (r .l)), tt))))))) (omega arith)
 
     pub refused-fields : complete (r .decomposition .outcome) ≡ false → split (length (answer-record r)) (answer-record r) ≡ refusedFields r
     refused-fields c = fields-of (refusedFields r) (refused-join c) (omega arith, (omega arith, (omega arith, (omega arith, tt)))) (omega arith)
@@ -101,8 +102,8 @@ module _ (r : Result) (f : Fits r) where
       ap resultRead (complete-fields r f c)
       ∙ rw (o, mark-read (r .decomposition .tied) (f .marks .0), mark-read (r .decomposition .phase2) (f .marks .1), doubles-content (r .e) de, doubles-content (r .l) dl)
 
-  pub read-refused : complete (r .decomposition .outcome) ≡ false → readAnswer (answer-record r) ≡ result (r .decomposition) [] [] []
+  pub read-refused : complete (r .decomposition .outcome) ≡ false → r .decomposition .inexact ≡ 0 → readAnswer (answer-record r) ≡ result (r .decomposition) [] [] []
   unfolding readAnswer doubles
-  read-refused c =
+  read-refused c k =
       ap resultRead (refused-fields r f c)
-      ∙ rw (outcome-read (r .decomposition .outcome), mark-read (r .decomposition .tied) (f .marks .0), mark-read (r .decomposition .phase2) (f .marks .1))
+      ∙ rw (k, outcome-read (r .decomposition .outcome), mark-read (r .decomposition .tied) (f .marks .0), mark-read (r .decomposition .phase2) (f .marks .1))

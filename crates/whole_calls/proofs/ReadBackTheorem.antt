@@ -1,5 +1,6 @@
 -- The answer to any list of bytes is read back: its result fits an answer record, and its amounts and entries of L are doubles.
-use mathlib.Core.Path.{_≡_}
+use mathlib.Core.Path.{_≡_, refl}
+use mathlib.Core.Bool.{false}
 use mathlib.Core.List.{List}
 use Prim.Native.Nat.{ℕ}
 use native.Mathlib.Omega.{arith}
@@ -31,15 +32,16 @@ record Readable (r : Result) : Type 0 where
   fits : Fits r
   factor : AllDoubles (r .l)
   amounts : AllDoubles (r .e)
+  refused-count : complete (r .decomposition .outcome) ≡ false → r .decomposition .inexact ≡ 0
 
 read-shown : (r : Result) → Readable r → readAnswer (answer-record r) ≡ shown r
 read-shown r R = elim (is (complete (r .decomposition .outcome))) [
   | holds c ↦ rw c (read-complete r (R .fits) c (R .amounts) (R .factor))
-  | fails c ↦ rw c (read-refused r (R .fits) c)
+  | fails c ↦ rw c (read-refused r (R .fits) c (R .refused-count c))
 ]
 
 refused-readable : (o : Outcome) → Fits (refused o) → Readable (refused o)
-refused-readable o f = record { fits = f; factor = λ k h. absurd (omega arith); amounts = λ k h. absurd (omega arith) }
+refused-readable o f = record { fits = f; factor = λ k h. absurd (omega arith); amounts = λ k h. absurd (omega arith); refused-count = λ c. refl }
 
 module _ (r : Request) (room : ℕ) (contracts entries : List ℕ) (h : Accepted (request-checks r room contracts entries)) where
   request-readable : Readable (resultTo r contracts entries)
@@ -49,7 +51,7 @@ module _ (r : Request) (room : ℕ) (contracts entries : List ℕ) (h : Accepted
       go : Is (complete (check-symmetric (r .size) (doubles entries))) → Fits (resultTo r contracts entries) → Readable (resultTo r contracts entries)
       go (holds c) = rw c (λ f.
           let s = results (methodOf (r .method)) (numbers contracts) (r .size) (doubles entries) (request-accepted r room contracts entries h .0 .some) (matrix-accepted r room contracts entries h (record { is = c })) in
-          record { fits = f; factor = s .doubles .0; amounts = s .doubles .1 })
+          record { fits = f; factor = s .doubles .0; amounts = s .doubles .1; refused-count = s .count .refused })
       go (fails c) = rw c (refused-readable (check-symmetric (r .size) (doubles entries)))
 
 result-readable : (b : List ℕ) → Readable (resultOf b)

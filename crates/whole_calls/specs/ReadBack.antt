@@ -40,7 +40,7 @@ markRead v = cond (eqb v 0xff) Never (Step v)
 
 abbrev pub resultRead : List Field → Result
 resultRead fs = record {
-  decomposition = record { outcome = outcomeRead (byteOf 0x11 0 fs) (byteOf 0x17 0 fs) (byteOf 0x17 1 fs); tied = markRead (byteOf 0x12 0 fs); phase2 = markRead (byteOf 0x13 0 fs) };
+  decomposition = record { outcome = outcomeRead (byteOf 0x11 0 fs) (byteOf 0x17 0 fs) (byteOf 0x17 1 fs); tied = markRead (byteOf 0x12 0 fs); phase2 = markRead (byteOf 0x13 0 fs); inexact = byteOf 0x18 0 fs };
   l = doubles (contentOf 0x16 fs);
   e = doubles (contentOf 0x15 fs);
   p = contentOf 0x14 fs;

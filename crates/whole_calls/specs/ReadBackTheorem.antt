@@ -9,7 +9,8 @@ use Rattle.answer_record.specs.Writing.{result}
 use Rattle.record.specs.Record.{resultOf, answer}
 use Rattle.whole_calls.specs.ReadBack.{readAnswer}
 
--- what an answer record holds of a result: all of it, or of a refusal the outcome with its place, the tied and the phase-two step
+-- what an answer record holds of a result: all of it, or of a refusal the outcome with its place, the tied and the phase-two step. The count of
+-- inexact roots, which a refusal does not show, is 0 there.
 abbrev pub shown : Result → Result
 shown r = cond (complete (r .decomposition .outcome)) r (result (r .decomposition) [] [] [])
 

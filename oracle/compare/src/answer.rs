@@ -5,6 +5,8 @@ pub struct Answer {
     pub refusal: u8,
     pub tied: u8,
     pub phase_two: u8,
+    /// 0 in a refusal.
+    pub inexact: u8,
     /// Empty in a refusal, as are e and L, which stand by their bits.
     pub p: Vec<usize>,
     pub e: Vec<u64>,
@@ -23,6 +25,7 @@ pub fn read(bytes: &[u8]) -> Option<Answer> {
             refusal: *refusal,
             tied: *tied,
             phase_two: *phase_two,
+            inexact: 0,
             p: vec![],
             e: vec![],
             l: vec![],
@@ -31,7 +34,8 @@ pub fn read(bytes: &[u8]) -> Option<Answer> {
         _ => return None,
     };
     match fields[3..] {
-        [(0x14, p), (0x15, e), (0x16, l)] => {
+        [(0x18, [inexact]), (0x14, p), (0x15, e), (0x16, l)] => {
+            answer.inexact = *inexact;
             answer.p = p.iter().map(|&row| row.into()).collect();
             answer.e = words(e);
             answer.l = words(l);
@@ -97,12 +101,12 @@ fn tag_at(record: &[u8], at: usize) -> u8 {
     0
 }
 
-/// Refusal, tied step, phase-two step and place.
+/// Refusal, tied step, phase-two step, inexact roots and place.
 fn head(record: &[u8]) -> String {
     match read(record) {
         Some(a) => format!(
-            "refusal {} at {:?} tied {} phase two {}",
-            a.refusal, a.place, a.tied, a.phase_two
+            "refusal {} at {:?} tied {} phase two {} inexact {}",
+            a.refusal, a.place, a.tied, a.phase_two, a.inexact
         ),
         None => format!("no answer record ({} bytes)", record.len()),
     }
@@ -112,18 +116,20 @@ fn head(record: &[u8]) -> String {
 mod tests {
     use super::*;
 
-    const COMPLETE: [u8; 34] = [
-        0x11, 1, 0, 0, 0x12, 1, 0, 0xff, 0x13, 1, 0, 0xff, 0x14, 1, 0, 0, 0x15, 8, 0, 0, 0, 0, 0,
-        0, 0, 0, 0, 0x16, 8, 0, 0, 0, 0, 0,
+    const COMPLETE: [u8; 38] = [
+        0x11, 1, 0, 0, 0x12, 1, 0, 0xff, 0x13, 1, 0, 0xff, 0x18, 1, 0, 1, 0x14, 1, 0, 0, 0x15, 8,
+        0, 0, 0, 0, 0, 0, 0, 0, 0, 0x16, 8, 0, 0, 0, 0, 0,
     ];
 
     #[test]
     fn cut_records_are_not_read() {
         let whole = [&COMPLETE[..], &[0, 0, 0, 0x40]].concat();
         let answer = read(&whole).unwrap();
-        assert_eq!((answer.refusal, answer.tied), (0, NONE));
+        assert_eq!((answer.refusal, answer.tied, answer.inexact), (0, NONE, 1));
         assert_eq!((answer.p, answer.l), (vec![0], vec![0x4000_0000_0000_0000]));
         assert!((0..whole.len()).all(|len| read(&whole[..len]).is_none()));
+        let without_18 = [&whole[..12], &whole[16..]].concat();
+        assert_eq!(read(&without_18), None);
     }
 
     #[test]

@@ -5,9 +5,9 @@
 use crate::checks::{self, Checked};
 use crate::port::{self, Refusal};
 use oracle::generate::rng::Rng;
-use oracle::helpers;
-use oracle::operands::{any_bits, area, cut, doubles, filling, index, length, list, size};
+use oracle::operands::{any_bits, area, cut, doubles, filling, index, length, list, size, square};
 use oracle::record::{bytes, Reply};
+use oracle::{helpers, is_inexact};
 
 #[derive(Clone)]
 pub struct Called {
@@ -90,19 +90,24 @@ pub fn helpers(rng: &mut Rng) -> [Called; 9] {
     ]
 }
 
+/// The root, then whether it is inexact.
 fn sqrt(rng: &mut Rng) -> Called {
-    let x = list(1, rng)[0];
+    let x = match rng.below(3) {
+        0 => square(rng),
+        _ => list(1, rng)[0],
+    };
+    let left = |root: f64, inexact: usize| [bytes(&[root]), inexact.to_le_bytes().into()].concat();
     let checks = || {
         checks::finite_list(&[x])?;
         checks::stored_finite(&[x.sqrt()], 0)?;
-        Ok(bytes(&[x.sqrt()]))
+        Ok(left(x.sqrt(), is_inexact(x).into()))
     };
-    let (refusal, root) = port::sqrt(x);
+    let (refusal, root, inexact) = port::sqrt(x);
     let port = Outcome {
         refusal,
-        left: bytes(&[root]),
+        left: left(root, inexact),
     };
-    called("sqrt", port, value(checks(), 8))
+    called("sqrt", port, value(checks(), 16))
 }
 
 fn eigenvalues(rng: &mut Rng) -> Called {

@@ -138,12 +138,12 @@ fn outcome<P: Copy + Into<usize>>((refusal, marks): Factored, lent: &Buffers<u8,
 pub fn accepted(operands: &Operands, reply: &Reply) -> Vec<Called> {
     let n = operands.n;
     let mark = |step: Option<usize>| step.unwrap_or(NONE);
-    let marks = [mark(reply.tied), mark(reply.phase_two)];
     let (l, e, p) = match &reply.outcome {
         Ok(answer) => (bytes(&answer.l), bytes(&answer.e), answer.p.clone()),
         Err(_) => (vec![0; 8 * n * n], vec![0; 8 * n], (0..n).collect()),
     };
     let work = vec![0; 8 * n * n];
+    let marks = [mark(reply.tied), mark(reply.phase_two), reply.inexact()];
     operands.called((refusal(reply), marks), &Buffers { l, work, e, p })
 }
 
@@ -154,7 +154,7 @@ pub fn refused(mut operands: Operands, rng: &mut Rng) -> Vec<Called> {
     }
     match operands.checks() {
         Ok(()) => vec![],
-        Err(refusal) => operands.called((refusal, [NONE, NONE]), &operands.lent),
+        Err(refusal) => operands.called((refusal, [NONE, NONE, 0]), &operands.lent),
     }
 }
 

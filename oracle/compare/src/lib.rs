@@ -14,6 +14,7 @@ mod numbered_report;
 mod port;
 mod records;
 mod report;
+mod roots;
 mod run;
 mod small;
 mod solve;

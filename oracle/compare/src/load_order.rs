@@ -15,7 +15,7 @@ pub enum Alike {
     Tied,
     /// No step is tied, a second phase begins: also the phase-two steps.
     PhaseTwo,
-    /// Neither: also the refusal with its place.
+    /// Neither: also the refusal with its place, and the count of inexact roots.
     Refused,
     /// Neither, and complete: all.
     Complete,
@@ -91,6 +91,11 @@ fn unlike(wanted: Alike, s: &[usize], first: &Answer, second: &Answer) -> Option
         ),
         (Alike::Refused, first.refusal == second.refusal, "refusal"),
         (Alike::Refused, first.place == second.place, "place"),
+        (
+            Alike::Refused,
+            first.inexact == second.inexact,
+            "inexact roots",
+        ),
         (Alike::Complete, first.l == second.l, "L"),
         (Alike::Complete, e == second.e, "e"),
         (Alike::Complete, first.p == p, "p"),
@@ -115,6 +120,7 @@ mod tests {
             refusal: 0,
             tied: NONE,
             phase_two: NONE,
+            inexact: 2,
             p: vec![2, 0, 1],
             e: vec![5, 6, 7],
             l: vec![1, 2, 3],
@@ -147,6 +153,12 @@ mod tests {
             ..second()
         };
         assert_eq!(unlike(Alike::Complete, &S, &first(), &e), Some("e"));
+        let inexact = Answer {
+            inexact: 1,
+            ..second()
+        };
+        let unlike = unlike(Alike::Complete, &S, &first(), &inexact);
+        assert_eq!(unlike, Some("inexact roots"));
     }
 
     #[test]

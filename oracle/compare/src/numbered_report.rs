@@ -2,6 +2,7 @@
 
 use crate::answer::{Answer, NONE};
 use crate::load_order::Alike;
+use crate::roots::Roots;
 use oracle::numbered::{Numbered, COUNT};
 use oracle::second::Judged;
 use oracle::table::NAMES;
@@ -20,6 +21,7 @@ struct Row {
     settled: u64,
     /// The same in phase two.
     settled_in_two: u64,
+    roots: Roots,
 }
 
 impl Row {
@@ -32,10 +34,18 @@ impl Row {
         self.phase_two += u64::from(answer.phase_two.is_some());
         self.settled += u64::from(ties.moved > 0);
         self.settled_in_two += u64::from(ties.moved_unreported > 0);
+        if answer.refusal == COMPLETE {
+            self.roots = self.roots + Roots::of(answer);
+        }
     }
 
     fn sum(rows: &[Row], count: impl Fn(&Row) -> u64) -> u64 {
         rows.iter().map(count).sum()
+    }
+
+    fn roots(rows: &[Row]) -> Roots {
+        rows.iter()
+            .fold(Roots::default(), |acc, row| acc + row.roots)
     }
 }
 
@@ -81,7 +91,8 @@ impl NumberedReport {
         if self.listed != COUNT {
             return Some(format!("{} numbered matrices of {COUNT}", self.listed));
         }
-        self.missing_run().or(self.missing_pair())
+        let missing = self.missing_run().or(self.missing_pair());
+        missing.or_else(|| self.missing_roots())
     }
 
     fn missing_run(&self) -> Option<String> {
@@ -91,6 +102,13 @@ impl NumberedReport {
         let (method, n, _) = rows.find(|(method, n, row)| is_missing(*method, *n, row))?;
         let name = NAMES[usize::from(method) - 1];
         Some(format!("every kind of numbered {name} run with n {n}"))
+    }
+
+    /// Each method has exact and inexact roots, also in one run.
+    fn missing_roots(&self) -> Option<String> {
+        let mut methods = NAMES.iter().zip(&self.rows);
+        let (name, _) = methods.find(|(_, rows)| !Row::roots(&rows[..]).all_occurred())?;
+        Some(format!("exact and inexact roots in numbered {name} runs"))
     }
 
     /// Each run has its reloading, and each refusal that reloading can move.
@@ -109,20 +127,22 @@ impl NumberedReport {
     fn runs(&self, f: &mut fmt::Formatter) -> fmt::Result {
         writeln!(
             f,
-            "numbered        runs  complete refused 9    tied  settled by number  phase two  settled in it"
+            "numbered        runs  complete refused 9    tied  settled by number  phase two  settled in it  {}",
+            Roots::HEAD
         )?;
         for (name, rows) in NAMES.iter().zip(&self.rows) {
             let sum = |count: fn(&Row) -> u64| Row::sum(rows, count);
             writeln!(
                 f,
-                "{name:12} {:7} {:9} {:9} {:7} {:18} {:10} {:14}",
+                "{name:12} {:7} {:9} {:9} {:7} {:18} {:10} {:14}  {}",
                 sum(|row| row.runs),
                 sum(|row| row.complete),
                 sum(|row| row.refused),
                 sum(|row| row.tied),
                 sum(|row| row.settled),
                 sum(|row| row.phase_two),
-                sum(|row| row.settled_in_two)
+                sum(|row| row.settled_in_two),
+                Row::roots(rows)
             )?;
         }
         Ok(())

@@ -7,7 +7,7 @@ mod ffi;
 pub type Refusal = [usize; 3];
 
 /// The bytes of the longest answer record.
-pub const LONGEST_ANSWER: usize = 18_885;
+pub const LONGEST_ANSWER: usize = 18_889;
 
 fn refusal(r: ffi::Refusal) -> Refusal {
     [r.number, r.row, r.column]
@@ -29,11 +29,12 @@ pub struct Buffers<T, P> {
     pub p: Vec<P>,
 }
 
-/// The refusal, then the tied and the phase-two step, 255 for none.
-pub type Factored = (Refusal, [usize; 2]);
+/// The refusal; the tied and the phase-two step, 255 for none, and how many roots were inexact.
+pub type Factored = (Refusal, [usize; 3]);
 
 fn factored(answer: ffi::Factorization) -> Factored {
-    (refusal(answer.refusal), [answer.tied, answer.phase2])
+    let marks = [answer.tied, answer.phase2, answer.inexact];
+    (refusal(answer.refusal), marks)
 }
 
 pub fn factor_bytes(method: usize, a: &[u8], n: usize, lent: &mut Buffers<u8, u8>) -> Factored {
@@ -165,9 +166,10 @@ pub fn solve_doubles(l: &[f64], n: usize, p: &[usize], b: &[f64], y: &mut [f64])
     })
 }
 
-pub fn sqrt(x: f64) -> (Refusal, f64) {
+/// The root, and 1 if rounding changed it.
+pub fn sqrt(x: f64) -> (Refusal, f64, usize) {
     let answer = unsafe { ffi::millracer_sqrt(x) };
-    (refusal(answer.refusal), answer.value)
+    (refusal(answer.refusal), answer.value, answer.inexact)
 }
 
 pub fn eigenvalues_2x2([[a, b], [c, d]]: [[f64; 2]; 2]) -> (Refusal, [f64; 2]) {

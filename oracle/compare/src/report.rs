@@ -3,6 +3,7 @@
 use crate::calls::Called;
 use crate::load_order::Alike;
 use crate::numbered_report::NumberedReport;
+use crate::roots::Roots;
 use crate::small;
 use crate::solve_report::SolveReport;
 use oracle::generate::Case;
@@ -25,6 +26,7 @@ struct Row {
     refused: u64,
     tied: u64,
     phase_two: u64,
+    roots: Roots,
 }
 
 /// Each small record is asked for on two buffers.
@@ -75,6 +77,9 @@ impl Report {
         row.refused += u64::from(reply.outcome.is_err());
         row.tied += u64::from(reply.tied.is_some());
         row.phase_two += u64::from(reply.phase_two.is_some());
+        if let Ok(answer) = &reply.outcome {
+            row.roots = row.roots + Roots::of(answer);
+        }
         self.sizes[case.n] += 1;
     }
 
@@ -133,7 +138,8 @@ impl Report {
     fn runs(&self, f: &mut fmt::Formatter) -> fmt::Result {
         writeln!(
             f,
-            "method n        runs  complete refused 9    tied  phase two"
+            "method n        runs  complete refused 9    tied  phase two  {}",
+            Roots::HEAD
         )?;
         for (name, rows) in NAMES.iter().zip(&self.runs) {
             let mut first = 1;
@@ -154,7 +160,7 @@ impl Report {
         writeln!(
             f,
             "load order: {all} pairs, {} tied (tied step alike), {untied} untied (also phase-two \
-             step), {} of these without phase two (also refusal and place), {} of these complete \
+             step), {} of these without phase two (also refusal, place and inexact roots), {} of these complete \
              (also L, e and p)",
             all - untied,
             from(Alike::Refused),
@@ -170,14 +176,15 @@ fn sum(x: Row, y: &Row) -> Row {
         refused: x.refused + y.refused,
         tied: x.tied + y.tied,
         phase_two: x.phase_two + y.phase_two,
+        roots: x.roots + y.roots,
     }
 }
 
 fn line(f: &mut fmt::Formatter, name: &str, range: &str, row: &Row) -> fmt::Result {
     writeln!(
         f,
-        "{name:6} {range:5} {:7} {:9} {:9} {:7} {:10}",
-        row.runs, row.complete, row.refused, row.tied, row.phase_two
+        "{name:6} {range:5} {:7} {:9} {:9} {:7} {:10}  {}",
+        row.runs, row.complete, row.refused, row.tied, row.phase_two, row.roots
     )
 }
 

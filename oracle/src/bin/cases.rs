@@ -1,11 +1,12 @@
 //! `cases COUNT MAXN SEED` prints one line for each case, its parts separated by single spaces:
 //!
-//!     method n tied phase_two refusal step count numbers A p e L
+//!     method n tied phase_two refusal step inexact count numbers A p e L
 //!
 //! tied and phase_two are 255 for none. refusal is 0 or 9, and step is the refused step, 0 in a
-//! complete run. count is 0, and there are no numbers. A is the matrix, n * n entries by rows; p has n
-//! numbers; e has n entries; L has n * n by rows. Entries are the 16 hexadecimal digits of a double's
-//! bits. After a refusal p, e and L are its fillings. A table of what occurred goes to standard error.
+//! complete run. inexact is how many roots on the diagonal are, 0 after a refusal. count is 0, and there
+//! are no numbers. A is the matrix, n * n entries by rows; p has n numbers; e has n entries; L has n * n
+//! by rows. Entries are the 16 hexadecimal digits of a double's bits. After a refusal p, e and L are its
+//! fillings. A table of what occurred goes to standard error.
 //!
 //! `cases COUNT MAXN SEED numbered` prints matrices with ties and contract numbers, count of them, and the
 //! second implementation's answers.
@@ -141,6 +142,7 @@ fn line(made: &Numbered, answer: &Answer) -> String {
         mark(answer.phase_two),
         answer.refusal.into(),
         answer.step,
+        answer.inexact,
         made.numbers.len(),
     ];
     spaced([
@@ -175,5 +177,6 @@ fn run(made: &Numbered, answer: &Answer) -> Run {
         refused: (answer.refusal != COMPLETE).then_some(answer.step),
         tied: answer.tied,
         phase_two: answer.phase_two,
+        inexact: (answer.refusal == COMPLETE).then_some(answer.inexact),
     }
 }

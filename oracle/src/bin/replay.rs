@@ -96,9 +96,9 @@ fn method(reply: &Reply) -> Option<u8> {
 /// What the second table notes, if the record passes every check.
 fn run(case: &Case) -> Option<Run> {
     let (method, n) = case.reply.header?;
-    let refused = match &case.reply.outcome {
-        Ok(_) => None,
-        Err(refusal) if refusal.number == NOT_FINITE => Some(refusal.place[0].into()),
+    let (refused, inexact) = match &case.reply.outcome {
+        Ok(answer) => (None, Some(answer.inexact)),
+        Err(refusal) if refusal.number == NOT_FINITE => (Some(refusal.place[0].into()), None),
         Err(_) => return None,
     };
     Some(Run {
@@ -107,5 +107,6 @@ fn run(case: &Case) -> Option<Run> {
         refused,
         tied: case.reply.tied,
         phase_two: case.reply.phase_two,
+        inexact,
     })
 }

@@ -206,6 +206,31 @@ fn a_refused_run_keeps_its_tie_and_its_phase() {
     }
 }
 
+/// How many roots of a complete run are inexact, and of how many.
+fn inexact(reply: &Reply) -> Option<(usize, usize)> {
+    let answer = reply.outcome.as_ref().ok()?;
+    Some((answer.inexact, answer.p.len()))
+}
+
+#[test]
+fn exact_and_inexact_roots_occur_in_each_method() {
+    for method in GMW81..=SE99 {
+        let replies = replies(roots::KIND);
+        let own = replies
+            .iter()
+            .filter(|reply| reply.header.unwrap().0 == method);
+        let seen: BTreeSet<(usize, usize)> = own.filter_map(inexact).collect();
+        let exact = if method == GMW81 { (0, 4) } else { (0, 3) };
+        let wanted = [(0, 1), (1, 1), (1, 2), (2, 2), (2, 4), exact];
+        assert!(
+            wanted.iter().all(|counts| seen.contains(counts)),
+            "{seen:?}"
+        );
+    }
+    let most = CASES.iter().filter_map(|(_, reply)| inexact(reply)).max();
+    assert_eq!(most, Some((48, 48)));
+}
+
 #[test]
 fn numbers_are_checked_in_order() {
     let wanted = [2, 3, 3, 4].map(|number| (number, 0, 0));

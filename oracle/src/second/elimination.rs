@@ -2,8 +2,9 @@ use super::run::{stored, NotFinite, Run};
 
 /// Step j of the factorization, in both phases.
 pub fn eliminate(run: &mut Run, j: usize) -> Result<(), NotFinite> {
+    let root = run.root(run.l[(j, j)])?;
     let l = &mut run.l;
-    l[(j, j)] = stored(l[(j, j)].sqrt())?;
+    l[(j, j)] = root;
     for i in j + 1..run.n {
         l[(i, j)] = stored(l[(i, j)] / l[(j, j)])?;
         l[(j, i)] = stored(l[(j, i)] / l[(j, j)])?;

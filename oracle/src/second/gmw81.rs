@@ -71,11 +71,13 @@ fn scale(run: &mut Run, d: &[f64]) -> Result<(), NotFinite> {
         run.l[(i, i)] = 1.0;
     }
     run.l.clear_upper();
+    let roots = d.iter().map(|&x| run.root(x));
+    let roots = roots.collect::<Result<Vec<f64>, NotFinite>>()?;
     for i in 0..n {
         let row: Vec<f64> = (0..n).map(|k| run.l[(i, k)]).collect();
-        for (j, d) in d.iter().enumerate() {
-            let root = |k: usize| if k == j { d.sqrt() } else { 0.0 };
-            run.l[(i, j)] = stored(sum((0..n).map(|k| row[k] * root(k))))?;
+        for (j, &root) in roots.iter().enumerate() {
+            let entry = |k: usize| if k == j { root } else { 0.0 };
+            run.l[(i, j)] = stored(sum((0..n).map(|k| row[k] * entry(k))))?;
         }
     }
     Ok(())

@@ -6,11 +6,11 @@ use crate::SE90;
 
 /// SE99 entering phase two at step n - 1.
 pub fn one(run: &mut Run, gamma: f64) -> Result<(), NotFinite> {
-    let (j, l) = (run.n - 1, &mut run.l);
-    let last = l[(j, j)];
+    let j = run.n - 1;
+    let last = run.l[(j, j)];
     run.e[j] = stored(-last + max(TAU_BAR * gamma, TAU * -last / (1.0 - TAU)))?;
-    l[(j, j)] = stored(last + run.e[j])?;
-    l[(j, j)] = stored(l[(j, j)].sqrt())?;
+    run.l[(j, j)] = stored(last + run.e[j])?;
+    run.l[(j, j)] = run.root(run.l[(j, j)])?;
     Ok(())
 }
 
@@ -20,14 +20,13 @@ pub fn two(run: &mut Run, method: u8, gamma: f64, delta_prev: f64) -> Result<(),
     let wanted = -llo + share(method, gamma, lhi - llo);
     run.e[i] = stored(max(max(0.0, wanted), delta_prev))?;
     run.e[j] = run.e[i];
-    let l = &mut run.l;
     if run.e[i] > 0.0 {
-        l[(i, i)] = stored(l[(i, i)] + run.e[i])?;
-        l[(j, j)] = stored(l[(j, j)] + run.e[j])?;
+        run.l[(i, i)] = stored(run.l[(i, i)] + run.e[i])?;
+        run.l[(j, j)] = stored(run.l[(j, j)] + run.e[j])?;
     }
-    l[(i, i)] = stored(l[(i, i)].sqrt())?;
-    l[(j, i)] = stored(l[(j, i)] / l[(i, i)])?;
-    l[(j, j)] = stored((l[(j, j)] - square(l[(j, i)])).sqrt())?;
+    run.l[(i, i)] = run.root(run.l[(i, i)])?;
+    run.l[(j, i)] = stored(run.l[(j, i)] / run.l[(i, i)])?;
+    run.l[(j, j)] = run.root(run.l[(j, j)] - square(run.l[(j, i)]))?;
     Ok(())
 }
 

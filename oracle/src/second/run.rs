@@ -2,7 +2,7 @@
 
 use super::square::Square;
 use super::words::largest;
-use crate::Answer;
+use crate::{is_inexact, Answer};
 
 /// The current step stored a value that isn't finite.
 pub struct NotFinite;
@@ -41,6 +41,8 @@ pub struct Run<'a> {
     pub step: usize,
     pub tied: Option<usize>,
     pub phase_two: Option<usize>,
+    /// Of the roots taken on the diagonal so far, those that rounding changed.
+    pub inexact: usize,
     pub ties: Ties,
     /// By rows of the matrix loaded.
     numbers: Option<&'a [u32]>,
@@ -56,9 +58,17 @@ impl<'a> Run<'a> {
             step: 0,
             tied: None,
             phase_two: None,
+            inexact: 0,
             ties: Ties::default(),
             numbers,
         }
+    }
+
+    /// The root taken of `x` on the diagonal, about to be stored.
+    pub fn root(&mut self, x: f64) -> Result<f64, NotFinite> {
+        let root = stored(x.sqrt())?;
+        self.inexact += usize::from(is_inexact(x));
+        Ok(root)
     }
 
     /// The pivot among positions j and later: the largest value, the first in position among equals or,

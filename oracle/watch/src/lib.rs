@@ -1,5 +1,9 @@
-//! What is seen of a run: its tied step, its phase-two step and the first step that stored a value
-//! that isn't finite. One run at a time on each thread.
+//! What is seen of a run: its tied step, its phase-two step, the first step that stored a value that
+//! isn't finite, and how many roots on its diagonal rounding changed. One run at a time on each thread.
+
+mod root;
+
+pub use root::is_inexact;
 
 use std::any::Any;
 use std::cell::Cell;
@@ -12,12 +16,15 @@ pub struct Marks {
     pub tied: Option<usize>,
     pub phase_two: Option<usize>,
     pub refused: Option<usize>,
+    /// 0 in a refused run.
+    pub inexact: usize,
 }
 
 const NONE: Marks = Marks {
     tied: None,
     phase_two: None,
     refused: None,
+    inexact: 0,
 };
 
 thread_local! {
@@ -68,6 +75,14 @@ pub fn phase_two(j: usize) {
     });
 }
 
+/// The root that is taken of `x` on the diagonal.
+pub fn root(x: f64) -> f64 {
+    if ON && is_inexact(x) {
+        update(|marks| marks.inexact += 1);
+    }
+    x.sqrt()
+}
+
 /// The current step stored `value`.
 pub fn value(value: f64) {
     stored(current_step(), &value);
@@ -93,6 +108,10 @@ pub fn end() -> Marks {
         tied: upto(marks.tied),
         phase_two: upto(marks.phase_two),
         refused: marks.refused,
+        inexact: match marks.refused {
+            None => marks.inexact,
+            Some(_) => 0,
+        },
     }
 }
 
@@ -113,7 +132,8 @@ mod tests {
             Marks {
                 tied: Some(1),
                 phase_two: None,
-                refused: Some(2)
+                refused: Some(2),
+                inexact: 0
             }
         );
     }
@@ -130,9 +150,22 @@ mod tests {
             Marks {
                 tied: None,
                 phase_two: Some(2),
-                refused: None
+                refused: None,
+                inexact: 0
             }
         );
+    }
+
+    #[test]
+    fn inexact_roots_of_a_refused_run_are_dropped() {
+        begin();
+        let roots = [4.0, 2.0, -0.0, 3.0].map(root);
+        assert_eq!(roots[..2], [2.0, 2f64.sqrt()]);
+        assert_eq!(end().inexact, 2);
+        assert!(root(-1.0).is_nan());
+        assert_eq!(end().inexact, 2);
+        stored(1, &f64::NAN);
+        assert_eq!(end().inexact, 0);
     }
 
     #[test]

@@ -45,7 +45,7 @@ returns : tie.Need-returns
 returns c = leaves _ _ _ _ _ _ _ _ _ _ (c .before .before .leaves-before .ensures ∙ sym (leavesBefore-mirrored _ _ _ _ _ _ (omega arith))) (c .before .if1 .taken) (c .left .ensures)
 
 step-at-requires : tie.Need-step-at-requires
-step-at-requires c κs = (search needs, (search needs, picked-below _ _ _ _ _ _ _ (c .before .before .before .before .search-diagonal .ensures) (length-diagonal _ _) (omega arith)))
+step-at-requires c κs = (search needs, (search needs, picked-below _ _ _ _ _ _ _ (c .before .before .before .before .search-diagonal .ensures) (length-diagonal _ _) (omega arith), search needs))
 
 returns-2 : tie.Need-returns-2
 returns-2 c =

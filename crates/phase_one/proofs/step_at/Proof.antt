@@ -45,6 +45,12 @@ returns c =
     let b = c9 .pivot .ensures in
     leaves _ _ _ _ _ _ _ _ _ _ _ _ _ (b .0) (b .1) (c4 .searched .ensures) _ (tested _ _ _ _ _ _ _ _ (omega (arith, s .pre .1 .1)) (b .0) (c .before .before .leaves-after .ensures) (c .before .if1 .taken)) (c .left .ensures)
 
+factorize-requires : tie.Need-factorize-requires
+factorize-requires c κs =
+    let c4 = c .before .before .before .before in
+    let s = c4 .before .before .before .before .before .before .before .before .before .before in
+    (search needs, (omega (arith, s .pre .1 .1), omega (arith, ap (λ (q : Progress). q .inexact) (c4 .searched .ensures), s .pre .1 .2)))
+
 returns-2 : tie.Need-returns-2
 returns-2 c =
     let c4 = c .before .before .before .before in
@@ -55,4 +61,4 @@ returns-2 c =
     goes-on _ _ _ _ _ _ _ _ _ _ _ _ _ (b .0) (b .1) (c7 .searched .ensures) _ _ (tested _ _ _ _ _ _ _ _ (omega (arith, s .pre .1 .1)) (b .0) (c4 .before .leaves-after .ensures) (c4 .if1 .left)) (c .before .before .factorize .ensures)
 
 pub step-at-spec : {M : Type 1} → statement M
-step-at-spec = tie.close (tie.spec (λ c κs. search needs) (λ c κs. search needs) (λ c κs. search needs) (λ c κs. search needs) (λ c. search needs) (λ c. search needs) returns (λ c κs. search needs) (λ c. search needs) (λ c. search needs) returns-2)
+step-at-spec = tie.close (tie.spec (λ c κs. search needs) (λ c κs. search needs) (λ c κs. search needs) (λ c κs. search needs) (λ c. search needs) (λ c. search needs) returns factorize-requires (λ c. search needs) (λ c. search needs) returns-2)

@@ -12,6 +12,7 @@ use Rattle.methods.specs.Gmw81.{Run, state, stepped, finish, Finished, run, mod
 use Rattle.methods.specs.Result.{handBack}
 use Rattle.methods.specs.declared.decomposition.Mark.the-variants.{Never}
 use Rattle.methods.specs.declared.progress.Progress.{Progress}
+use Rattle.methods.proofs.Counts.{steps-uncounted}
 use Rattle.methods.proofs.FiniteEntries.{FiniteEntries}
 use Rattle.methods.proofs.GmwFinite.{FiniteRun, steps-finite}
 use Rattle.methods.proofs.GmwLaws.{finish-order}
@@ -23,6 +24,9 @@ use Rattle.modcholesky.proofs.gmw81.run_with.Tie as tie
 module _ (numbers : List ℕ) (n : ℕ) (a : List Float) (s : Run) (e : s ≡ stepped numbers n a) where
   rows : AllBelow n (s .p)
   rows = permuted-below n (s .p) (subst (λ (x : Run). Permuted n (x .p)) (sym e) (steps-permuted numbers n _ _ a))
+
+  uncounted : s .progress .inexact ≡ 0
+  uncounted = rw e (steps-uncounted numbers n a)
 
   finites : FiniteEntries n a → s .progress .refused ≡ Never → AllFinite n (s .l)
   finites F h = subst (FiniteRun n) (sym e) (steps-finite numbers n _ _ a F) h .each
@@ -42,7 +46,7 @@ finish-requires c κs =
     let steps = c .before .before .before .before .before .before .before .before .before .before .before .before .before .before .before .before .before in
     let s = steps .before .before .before .before .before .before .before .before .before .before .before .before .before .before .before in
     let k = steps .stepped .kept in
-    (omega (arith, k, s .pre), (finites _ _ _ _ (steps .stepped .ensures) (record { entries = s .pre .0 .len; each = s .pre .1 .0 }), (omega (arith, k, s .pre), rows _ _ _ _ (steps .stepped .ensures))))
+    (omega (arith, k, s .pre), (finites _ _ _ _ (steps .stepped .ensures) (record { entries = s .pre .0 .len; each = s .pre .1 .0 }), (omega (arith, k, s .pre, uncounted _ _ _ _ (steps .stepped .ensures)), rows _ _ _ _ (steps .stepped .ensures))))
 
 hand-back-requires : tie.Need-hand-back-requires
 hand-back-requires c κs =
