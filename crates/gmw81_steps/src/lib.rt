@@ -436,5 +436,5 @@ pub fn finish(
     }
     let stores = scale(l, d, n);
     statements::reorder(p, e, ec, n);
-    r.counted(stores.inexact).stored(stores.ok, n)
+    r.rooted(stores, n)
 }

@@ -90,10 +90,10 @@ impl Progress {
         }
     }
 
-    // k of the diagonal roots just taken are inexact.
-    pub fn counted(self, k: usize) -> Progress
-        requires { ⌜ self .inexact + k ≤ 48 ⌝ }
-        ensures { λ r. ⌜ r ≡ counted k self ⌝ }
+    // Step j has stored values, roots on the diagonal among them.
+    pub fn rooted(self, stores: Stores, j: usize) -> Progress
+        requires { ⌜ self .inexact + stores .inexact ≤ 48 ⌝ }
+        ensures { λ r. ⌜ r ≡ stored (stores .ok) j (counted (stores .inexact) self) ⌝ }
     {
         let tied = self.tied;
         let phase2 = self.phase2;
@@ -102,8 +102,8 @@ impl Progress {
             delta_prev: self.delta_prev,
             tied,
             phase2,
-            refused,
-            inexact: self.inexact + k,
+            refused: refused.mark(!stores.ok, j),
+            inexact: self.inexact + stores.inexact,
         }
     }
 

@@ -170,7 +170,7 @@ fn factorize(l: &mut [f64], n: usize, j: usize, r: Progress) -> Progress
     ensures { λ q. ⌜ ((e g : List Float) (p : List ℕ) → state (mirrored n (now (l .exit))) e g p q ≡ factorize n j (state (mirrored n (now (l .entry))) e g p r)) ⌝ }
 {
     let stores = statements::eliminate(l, n, j);
-    r.counted(stores.inexact).stored(stores.ok, j)
+    r.rooted(stores, j)
 }
 
 fn phase_one_step(
