@@ -16,7 +16,7 @@ use Rattle.methods.specs.Progress.{oneIf}
 use Rattle.methods.specs.declared.method.Method.the-variants.{Gmw81, Se}
 use Rattle.methods.specs.declared.decomposition.Mark.the-variants.{Step}
 use Rattle.methods.specs.declared.schnabel_eskow.Variant.the-variants.{Se90, Se99}
-use Rattle.hand.specs.Hand.{4·, minus, All, rows, InexactRoots, OrdersOf}
+use Rattle.hand.specs.Hand.{4·, minus, All, rows, RootsCounted, OrdersOf}
 
 pub hand-calculations : All rows
 unfolding factor add sub mul div lt eq neg isNan ofBits firstFrom sqrt-call eigenvalues-2x2-call search-checks largest circle-checks setEach firstOverflow _then_ eigenvaluesOf oneIf
@@ -37,9 +37,9 @@ unfolding factor add sub mul div lt eq neg isNan ofBits
 se99-enters = refl
 
 -- ---- which roots count
-pub inexact-roots : InexactRoots
+pub roots-counted : RootsCounted
 unfolding factor add sub mul div lt eq neg isNan ofBits sqrt-call _then_ oneIf
-inexact-roots = record { root-of-two = refl; root-of-minus-zero = refl; gmw81 = refl; not-in-beta = refl; se90 = refl; se99 = refl; one-row-left = refl; both-in-block = refl; first-in-block = refl; second-in-block = refl; not-in-eigenvalues = refl }
+roots-counted = record { root-of-two = refl; root-of-minus-zero = refl; gmw81 = refl; not-in-beta = refl; se90 = refl; se99 = refl; one-row-left = refl; both-in-block = refl; first-in-block = refl; second-in-block = refl; not-in-eigenvalues = refl }
 
 -- ---- a tie after a swap, without numbers and with
 pub gmw81-orders : OrdersOf Gmw81

@@ -112,13 +112,13 @@ rows =
     ∷ root 2^-1074 2^-537 false
     ∷ []
 
--- ---- which roots count (document 02, N5)
+-- ---- which roots count (document 02, N5): proofs/Rows.antt, `roots-counted`
 
 -- method, n, matrix; phase-two step, and how many of the n diagonal roots are inexact
 abbrev Counted : Method → ℕ → List Float → Mark → ℕ → Type 0
 Counted method n a phase2 inexact = factor method tolerances [] n a .decomposition ≡ record { outcome = Complete; tied = Never; phase2 = phase2; inexact = inexact }
 
-pub record InexactRoots : Type 0 where
+pub record RootsCounted : Type 0 where
   pub root-of-two : sqrt-call 2· .inexact ≡ true
   pub root-of-minus-zero : sqrt-call (minus 0·) ≡ record { outcome = Complete; value = minus 0·; inexact = false }
   pub gmw81 : Counted Gmw81 1 (2· ∷ []) Never 1
