@@ -72,31 +72,11 @@ factorize-count : (n j : ℕ) (s : Run) → AtMost (s .progress .inexact + 1) (f
 unfolding factorize
 factorize-count n j s = one-more (s .progress .inexact) _
 
-pivot-count : (n j k : ℕ) (tie : Bool) (s : Run) → pivot n j k tie s .progress .inexact ≡ s .progress .inexact
-unfolding pivot
-pivot-count n j k tie s = refl
-
-module _ (v : Variant) (t : Tolerances) (gamma : Float) (n j k : ℕ) where
-  stepAt-count : (tie : Bool) (s : Run) → AtMost (s .progress .inexact + 1) (stepAt v t gamma n j k tie s)
-  stepAt-count tie s =
-      let s₁ = pivot n j k tie s in
-      let e = pivot-count n j k tie s in
-      rw stepAt-is (cond-keeps (AtMost (s .progress .inexact + 1)) (leavesAfter v t gamma n j (pivotMatrix n j k (s .l))) (leave j s₁) (factorize n j s₁) (omega (arith, e)) (omega (arith, e, factorize-count n j s₁)))
-
-  phaseTwoStepAt-count : (s : Run) → AtMost (s .progress .inexact + 1) (phaseTwoStepAt v t gamma n j k s)
-  unfolding phaseTwoStepAt
-  phaseTwoStepAt-count s = one-more (s .progress .inexact) _
+phaseTwoStepAt-count : (v : Variant) (t : Tolerances) (gamma : Float) (n j k : ℕ) (s : Run) → AtMost (s .progress .inexact + 1) (phaseTwoStepAt v t gamma n j k s)
+unfolding phaseTwoStepAt
+phaseTwoStepAt-count v t gamma n j k s = one-more (s .progress .inexact) _
 
 module _ (v : Variant) (t : Tolerances) (numbers : List ℕ) (gamma : Float) (n : ℕ) where
-  inPhaseOne-count : (j : ℕ) (s : Run) → AtMost (s .progress .inexact + 1) (inPhaseOne v t numbers gamma n j s)
-  inPhaseOne-count j s =
-      let P = AtMost (s .progress .inexact + 1) in
-      rw (inPhaseOne-is, phaseOneStep-is) (cond-keeps P (stopped (s .progress)) s _ (omega arith) (cond-keeps P (leavesBefore v t gamma n j (s .l)) (leave j s) _ (omega arith) (stepAt-count v t gamma n j _ _ s)))
-
-  -- after the steps before j
-  pub phase-one-count : (j : ℕ) (s : Run) → AtMost (s .progress .inexact + j) (range 0 j (inPhaseOne v t numbers gamma n) s)
-  phase-one-count j s = range-ind (λ i x. AtMost (s .progress .inexact + i) x) 0 j (inPhaseOne v t numbers gamma n) s (omega arith) (omega arith) (λ i p q x h. omega (arith, inPhaseOne-count i x))
-
   phaseTwoStep-count : (j : ℕ) (s : Run) → AtMost (s .progress .inexact + 1) (phaseTwoStep v t numbers gamma n j s)
   phaseTwoStep-count j s = rw phaseTwoStep-is (cond-keeps (AtMost (s .progress .inexact + 1)) (marked (s .progress .refused)) s _ (omega arith) (phaseTwoStepAt-count v t gamma n j _ s))
 
@@ -104,10 +84,10 @@ module _ (v : Variant) (t : Tolerances) (numbers : List ℕ) (gamma : Float) (n 
   pub phase-two-count : (k j : ℕ) (s : Run) → k ≤ j → AtMost k s → AtMost j (range k j (phaseTwoStep v t numbers gamma n) s)
   phase-two-count k j s h b = range-ind (λ i x. AtMost i x) k j (phaseTwoStep v t numbers gamma n) s h b (λ i p q x c. omega (arith, phaseTwoStep-count i x))
 
--- ---- phase one is left at k: before it at most k were counted
-record LeftAt (j : ℕ) (s : Run) : Type 0 where
-  most : AtMost j s
-  left : (k : ℕ) → s .progress .phase2 ≡ Step k → AtMost k s
+-- ---- before step j of phase one at most j are counted, and at most k where it was left at k
+pub record LeftAt (j : ℕ) (s : Run) : Type 0 where
+  pub most : AtMost j s
+  pub left : (k : ℕ) → s .progress .phase2 ≡ Step k → AtMost k s
 
 leave-left : (j : ℕ) (s : Run) → s .progress .phase2 ≡ Never → AtMost j s → LeftAt (suc j) (leave j s)
 leave-left j s m b = record { most = omega arith; left = λ k e. let z : Step j ≡ Step k = rw m at e in let i : j ≡ k = cc in omega arith }
@@ -137,12 +117,12 @@ module _ (v : Variant) (t : Tolerances) (numbers : List ℕ) (gamma : Float) (n 
           let m = going (s .progress) h .phase2 in
           rw (inPhaseOne-is v t numbers gamma n j s, h, phaseOneStep-is v t numbers gamma n j s) (cond-keeps (LeftAt (suc j)) (leavesBefore v t gamma n j (s .l)) (leave j s) _ (leave-left j s m (b .most)) (stepAt-left j _ _ s m (b .most)))
 
-  phaseOne-left : (a : List Float) → LeftAt n (phaseOne v t numbers gamma n (start n a))
-  unfolding start
-  phaseOne-left a = rw phaseOne-is (range-ind LeftAt 0 n (inPhaseOne v t numbers gamma n) (start n a) (omega arith) (still-in 0 (start n a) refl (omega arith)) (λ i p q x h. inPhaseOne-left i x h))
+  pub phase-one-left : (j : ℕ) (s : Run) → s .progress .inexact ≡ 0 → LeftAt j (range 0 j (inPhaseOne v t numbers gamma n) s)
+  phase-one-left j s e = range-ind LeftAt 0 j (inPhaseOne v t numbers gamma n) s (omega arith) (record { most = omega arith; left = λ k h. omega arith }) (λ i p q x h. inPhaseOne-left i x h)
 
-  pub phase-one-left : (a : List Float) (k : ℕ) → phaseOne v t numbers gamma n (start n a) .progress .phase2 ≡ Step k → AtMost k (phaseOne v t numbers gamma n (start n a))
-  phase-one-left a k e = phaseOne-left a .left k e
+  pub left-from-start : (a : List Float) → LeftAt n (phaseOne v t numbers gamma n (start n a))
+  unfolding start
+  left-from-start a = rw phaseOne-is (phase-one-left n (start n a) refl)
 
 -- ---- the last block counts at most one for each of its rows
 last-count : (n : ℕ) (last : Last) (s : Run) → AtMost (s .progress .inexact + rowsOf last) (addLast n last s)
@@ -187,4 +167,4 @@ pub se-count : (v : Variant) (t : Tolerances) (numbers : List ℕ) (n : ℕ) (a 
 se-count v t numbers n a =
     let gamma = diagonalMax n a in
     let s = phaseOne v t numbers gamma n (start n a) in
-    rw run-is (after-count v t numbers gamma n (s .progress .phase2) s (λ k e. (phaseOne-below v t numbers gamma n a k e, phase-one-left v t numbers gamma n a k e)) (phaseOne-left v t numbers gamma n a .most))
+    rw run-is (after-count v t numbers gamma n (s .progress .phase2) s (λ k e. (phaseOne-below v t numbers gamma n a k e, left-from-start v t numbers gamma n a .left k e)) (left-from-start v t numbers gamma n a .most))

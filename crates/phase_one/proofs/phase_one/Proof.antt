@@ -10,7 +10,7 @@ use Rattle.arithmetic.specs.Loop.{range}
 use Rattle.arithmetic.proofs.LoopLaws.{loop-start, loop-turn, loop-end, loop-rest}
 use Rattle.methods.specs.Elimination.{mirrored}
 use Rattle.methods.specs.Se.{Run, state, inPhaseOne}
-use Rattle.methods.proofs.Counts.{phase-one-count}
+use Rattle.methods.proofs.Counts.{phase-one-left}
 use Rattle.methods.proofs.SeLaws.{phaseOne-is}
 use Rattle.methods.proofs.Stopped.{phase-one-stays, phase-one-goes}
 use Rattle.phase_one.proofs.phase_one.Statement.{statement}
@@ -33,8 +33,8 @@ phase-one-step-requires c κs =
     let s = c .before .before .before .before .before .before in
     let a = s .before .before .before .before .before in
     let e = ap (λ (r : Run). r .progress .inexact) (s .loop .inv .4 [] []) in
-    let k = phase-one-count (a .args .v) (a .args .t) (a .args .numbers .now) (a .args .gamma) (a .args .n) (s .loop .j) (state (mirrored (a .args .n) (a .args .l .now)) [] [] (a .args .p .now) (a .args .r)) in
-    (search needs, (search needs, search needs, search needs, omega (arith, e, k, a .pre .1 .2)))
+    let k = phase-one-left (a .args .v) (a .args .t) (a .args .numbers .now) (a .args .gamma) (a .args .n) (s .loop .j) (state (mirrored (a .args .n) (a .args .l .now)) [] [] (a .args .p .now) (a .args .r)) (a .pre .1 .2) in
+    (search needs, (search needs, search needs, search needs, omega (arith, e, k .most)))
 
 returns : tie.Need-returns Inv-loop μ-loop
 returns c =
