@@ -126,6 +126,7 @@ static size_t phase_one(int se99, double *l, size_t n, double gamma, size_t *p) 
       swap_rows_and_columns(l, n, j, q);
       swap_order(p, j, q);
     }
+    if (!se99 && l[j * n + j] <= 0) return j;
     double tmp = INFINITY;
     for (size_t i = j + 1; i < n; i++) {
       double nv = l[i * n + i] - l[i * n + j] * l[i * n + j] / l[j * n + j];

@@ -84,6 +84,7 @@ millracer_factorization millracer_factor_bytes(size_t method, const uint8_t *a, 
 /* Factors the symmetric matrix a of n * n entries. Lengths: l and work n * n, e and p n.
  * l: the lower factor. e[r]: what was added for row r of a. p[t]: the row of a taken at step t. work: +0.0 afterwards.
  * Refusal 9 writes +0.0 over l and e, and 0 to n - 1 into p.
+ * SE90 leaves phase one also on a pivot that is zero or negative.
  * The roots on the diagonal are one a row: GMW81's of d, and in SE90 and SE99 that of each step and of each of the last
  * rows. Beta's and the eigenvalues' don't count. */
 static inline millracer_factorization millracer_factor(size_t method, const double *a, size_t a_len, size_t n,

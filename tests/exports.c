@@ -69,24 +69,28 @@ static void matrices(void) {
 }
 
 static void factorizations(void) {
-  double l[4], work[4], e[2];
-  size_t p[2];
+  double l[9], work[9], e[3];
+  size_t p[3];
   const double a[] = {2, 2, 2, 4};
   millracer_factorization f = millracer_factor(MILLRACER_GMW81, a, 4, 2, l, 4, work, 4, e, 2, p, 2);
   EXPECT(is(f.refusal, 0, 0, 0) && f.tied == MILLRACER_NO_STEP && f.phase2 == MILLRACER_NO_STEP && f.inexact == 0);
   EXPECT(same(l, (double[]){2, 0, 1, 1}, 4) && same(work, (double[4]){0}, 4) && same(e, (double[2]){0}, 2));
   EXPECT(p[0] == 1 && p[1] == 0);
   f = millracer_factor(MILLRACER_SE90, (double[4]){0}, 4, 2, l, 4, work, 4, e, 2, p, 2);
-  EXPECT(is(f.refusal, MILLRACER_STORED_NOT_FINITE, 0, 0) && f.tied == 0 && f.phase2 == MILLRACER_NO_STEP);
-  EXPECT(f.inexact == 0);
+  EXPECT(is(f.refusal, MILLRACER_STORED_NOT_FINITE, 0, 0) && f.tied == 0 && f.phase2 == 0 && f.inexact == 0);
   EXPECT(same(l, (double[4]){0}, 4) && p[0] == 0 && p[1] == 1);
+  f = millracer_factor(MILLRACER_SE90, (double[]){-4}, 1, 1, l, 1, work, 1, e, 1, p, 1);
+  EXPECT(is(f.refusal, 0, 0, 0) && f.tied == MILLRACER_NO_STEP && f.phase2 == 0 && f.inexact == 1);
+  EXPECT(same(e, (double[]){0x1.0000659822e65p2}, 1) && same(l, (double[]){0x1.428a6f98f113fp-8}, 1));
+  f = millracer_factor(MILLRACER_SE90, (double[]){-0.0}, 1, 1, l, 1, work, 1, e, 1, p, 1);
+  EXPECT(is(f.refusal, 0, 0, 0) && f.phase2 == 0 && same(l, (double[1]){0}, 1) && same(e, (double[1]){0}, 1));
   f = millracer_factor(MILLRACER_SE99, (double[]){-4}, 1, 1, l, 1, work, 1, e, 1, p, 1);
   EXPECT(is(f.refusal, 0, 0, 0) && f.phase2 == 0 && e[0] > 4 && f.inexact == 1);
   f = millracer_factor(4, a, 4, 2, l, 4, work, 4, e, 2, p, 2);
   EXPECT(is(f.refusal, MILLRACER_UNKNOWN_METHOD, 0, 0) && f.inexact == 0);
-  // the first root is inexact; the run is refused at step 1
-  f = millracer_factor(MILLRACER_SE90, (double[]){1e-200, 3e-200, 3e-200, 1e-200}, 4, 2, l, 4, work, 4, e, 2, p, 2);
-  EXPECT(is(f.refusal, MILLRACER_STORED_NOT_FINITE, 1, 0) && f.inexact == 0);
+  // the first root is inexact; the second pivot is zero, and phase two is refused at step 1
+  f = millracer_factor(MILLRACER_SE90, (double[9]){0x1p-1073}, 9, 3, l, 9, work, 9, e, 3, p, 3);
+  EXPECT(is(f.refusal, MILLRACER_STORED_NOT_FINITE, 1, 0) && f.tied == 1 && f.phase2 == 1 && f.inexact == 0);
 }
 
 // How many roots of a diagonal matrix of two rows are inexact, in each method.

@@ -21,8 +21,8 @@ struct Listed {
     calls: [usize; 4],
     /// How often `.sqrt()`, `.sum()` and `.dot(` do. They stay, but for the roots on the diagonal.
     kept: [usize; 3],
-    /// Tells the watch of steps, of the end of phase one, of values in plain variables and of the roots on the
-    /// diagonal, which it takes itself.
+    /// Tells the watch of steps, of SE90's pivots, of the end of phase one, of values in plain variables and of the
+    /// roots on the diagonal, which it takes itself.
     watched: &'static [Substitution],
 }
 
@@ -92,6 +92,8 @@ const FILES: [Listed; 6] = [
         watched: &[
             HELPERS,
             PHASE_ONE,
+            // After search and swap.
+            ("let tmp = (", "watch::pivot(l[(j, j)]); let tmp = (", 1),
             (LEAVE, LEAVE_WATCHED, 1),
             PHASE_TWO,
             NORM,

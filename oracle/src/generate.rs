@@ -2,12 +2,14 @@
 
 mod aimed;
 pub(crate) mod edge;
+mod pivots;
 mod plain;
 pub mod rng;
 pub(crate) mod symmetric;
 
-use crate::{GMW81, SE99};
+use crate::{GMW81, SE90, SE99};
 use rng::Rng;
+use std::collections::BTreeSet;
 use symmetric::Symmetric;
 
 macro_rules! kinds {
@@ -39,12 +41,13 @@ kinds! {
     PhaseTwoAtStep,
     RefusedAtStep,
     LastBit,
+    PivotNotPositive,
 }
 
 use Kind::*;
 
 /// One round of kinds. Those that aim at a step come more often, so that few cases reach each step.
-const ROUND: [Kind; 24] = [
+const ROUND: [Kind; 26] = [
     PhaseTwoAtStep,
     PositiveDefinite,
     RefusedAtStep,
@@ -54,6 +57,7 @@ const ROUND: [Kind; 24] = [
     PhaseTwoAtStep,
     EqualDiagonals,
     RefusedAtStep,
+    PivotNotPositive,
     ZeroDiagonals,
     OverflowHalfWay,
     SmallIntegers,
@@ -67,6 +71,7 @@ const ROUND: [Kind; 24] = [
     Huge,
     RefusedAtStep,
     RangeEnds,
+    PivotNotPositive,
     OverflowHalfWay,
     LastBit,
 ];
@@ -99,6 +104,25 @@ fn case(index: usize, max_n: usize, seed: u64) -> Case {
         n,
         matrix,
     }
+}
+
+/// SE90 of every n, with a pivot at or below zero at the first, a middle and the last step. The same at every call.
+pub fn pivot_list() -> Vec<Case> {
+    let steps = |n: usize| BTreeSet::from([0, n / 2, n - 1]);
+    let aims = (1..=48).flat_map(|n| steps(n).into_iter().map(move |step| (n, step)));
+    let case = |(n, step): (usize, usize)| Case {
+        kind: PivotNotPositive,
+        method: SE90,
+        n,
+        matrix: matrix(
+            PivotNotPositive,
+            SE90,
+            n,
+            step,
+            &mut Rng::new(n as u64, step as u64),
+        ),
+    };
+    aims.map(case).collect()
 }
 
 /// How many slots before this one had the same kind.
@@ -151,6 +175,7 @@ pub fn matrix(kind: Kind, method: u8, n: usize, step: usize, rng: &mut Rng) -> V
         PhaseTwoAtStep => aimed::phase_two_at(method, n, step, rng),
         RefusedAtStep => aimed::refused_at(method, n, step, rng),
         LastBit => edge::last_bit(method, n, step, rng),
+        PivotNotPositive => pivots::not_positive(n, step, rng),
     };
     made.reloaded(&rng.permutation(n)).into_entries()
 }

@@ -1,4 +1,5 @@
-//! The Rust that document 01 lists, asked for its answers in that document's terms.
+//! The Rust that document 01 lists, asked for its answers in that document's terms; where it can't be asked, the
+//! second implementation.
 
 pub mod generate;
 pub mod helpers;
@@ -41,8 +42,42 @@ pub struct Answer {
 
 type Factors = Decomposition<Array2<f64>, Array1<f64>, Array1<usize>>;
 
-/// Factors a matrix that passes checks 2 to 8; any other is a caller's fault and panics.
+/// What the Rust answers, and what was seen of it.
+pub struct Watched {
+    pub answer: Answer,
+    /// The step at which SE90's phase one met a pivot at or below zero. Document 02 ends the phase there.
+    pub not_positive: Option<usize>,
+}
+
+impl Watched {
+    /// Nothing where SE90 met such a pivot.
+    pub fn asked(self) -> Option<Answer> {
+        self.not_positive.is_none().then_some(self.answer)
+    }
+}
+
+/// What documents 01 and 02 ask for: the Rust's answer or, where it can't be asked, the second implementation's.
+/// It knows neither numbers nor SE90's test of the pivot.
+pub fn answer(method: u8, n: usize, a: &[f64], numbers: Option<&[u32]>) -> Answer {
+    let rust = match numbers {
+        None => asked(method, n, a),
+        Some(_) => None,
+    };
+    rust.unwrap_or_else(|| second::factor(method, n, a, numbers))
+}
+
+/// The Rust's answer, if it can be asked.
+pub fn asked(method: u8, n: usize, a: &[f64]) -> Option<Answer> {
+    watched(method, n, a).asked()
+}
+
+/// The Rust's answer in any case.
 pub fn factor(method: u8, n: usize, a: &[f64]) -> Answer {
+    watched(method, n, a).answer
+}
+
+/// Factors a matrix that passes checks 2 to 8; any other is a caller's fault and panics.
+pub fn watched(method: u8, n: usize, a: &[f64]) -> Watched {
     assert!((GMW81..=SE99).contains(&method), "method {method}");
     assert!(
         n > 0 && is_accepted(n, a),
@@ -56,16 +91,19 @@ pub fn factor(method: u8, n: usize, a: &[f64]) -> Answer {
         (None, Err(_)) => (PANICKED, fillings(n)),
         (Some(_), _) => (NOT_FINITE, fillings(n)),
     };
-    let step = marks.refused.unwrap_or(0);
-    Answer {
+    let answer = Answer {
         refusal,
-        step,
+        step: marks.refused.unwrap_or(0),
         tied: marks.tied,
         phase_two: marks.phase_two,
         inexact: marks.inexact,
         l,
         e,
         p,
+    };
+    Watched {
+        answer,
+        not_positive: marks.not_positive,
     }
 }
 

@@ -16,8 +16,9 @@ pub enum Sort {
     Levelled,
 }
 
-/// Those that tie: by equal entries, by rounding, by zeros of either sign, and in phase two.
-pub const TYING: [Sort; 7] = [
+/// Those that tie: by equal entries, by rounding, by zeros of either sign, in phase two, and where SE90's pivot is at
+/// or below zero.
+pub const TYING: [Sort; 8] = [
     Sort::Of(Kind::EqualDiagonals),
     Sort::Of(Kind::TiedByRounding),
     Sort::Of(Kind::ZeroDiagonals),
@@ -25,10 +26,11 @@ pub const TYING: [Sort; 7] = [
     Sort::Of(Kind::SmallIntegers),
     Sort::Groups,
     Sort::Levelled,
+    Sort::Of(Kind::PivotNotPositive),
 ];
 
 /// How many the list has, said once more: a comparison of fewer is a difference.
-pub const COUNT: usize = 1512;
+pub const COUNT: usize = 1728;
 
 /// Every sort with every method and n, the small ones four times. The same at every call.
 pub fn list() -> Vec<(Sort, Numbered)> {
@@ -182,6 +184,25 @@ mod tests {
             assert!(n == 2 || [SE90, SE99].iter().all(phase_two), "{n}");
         }
         assert_eq!(list.len(), COUNT);
+    }
+
+    /// At the first step, between and, where there are several rows, at the last; tied at that step or not.
+    #[test]
+    fn pivots_at_or_below_zero_are_met_tied_and_not() {
+        let list = list();
+        let runs = list.iter().filter(|(_, made)| made.method == SE90);
+        let met = runs.filter_map(|(_, made)| {
+            let found = judged(SE90, made.n, &made.matrix, Some(&made.numbers));
+            let step = found.not_positive?;
+            let last = step > 0 && step + 1 == made.n;
+            Some((step > 0, last, found.answer.tied == Some(step)))
+        });
+        let count = |sort| met.clone().filter(|x| *x == sort).count();
+        let seen = [(false, false), (true, false)]
+            .map(|(after, last)| [false, true].map(|tied| count((after, last, tied))));
+        assert!(seen.iter().flatten().all(|&count| count > 10), "{seen:?}");
+        let last = count((true, true, false));
+        assert!(last > 5, "{last}");
     }
 
     #[test]

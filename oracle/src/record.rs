@@ -7,7 +7,8 @@ pub use checks::{
     NUMBER_REPEATED, PAST_END, TAG_NOT_DUE,
 };
 
-use crate::{factor, second, Answer, COMPLETE, NOT_FINITE};
+use crate::second::{judged, Judged};
+use crate::{watched, Answer, Watched, COMPLETE, NOT_FINITE};
 
 /// Bytes of the longest matrix record: of 48 rows, with numbers.
 pub const LONGEST: usize = 18_638;
@@ -82,24 +83,28 @@ pub fn reply(record: &[u8]) -> Reply {
     }
 }
 
-/// The Rust's answer or, where it can't be asked, the second implementation's.
+/// Without numbers the Rust is asked too.
 fn run(input: &Input) -> Reply {
-    let (n, matrix) = (usize::from(input.n), &input.matrix);
-    let answer = match &input.numbers {
-        None => asked(input.method, n, matrix),
-        Some(numbers) => second::factor(input.method, n, matrix, Some(numbers)),
+    let (method, n, matrix) = (input.method, usize::from(input.n), &input.matrix);
+    let second = judged(method, n, matrix, input.numbers.as_deref());
+    let answer = match input.numbers {
+        None => agreed(watched(method, n, matrix), second),
+        Some(_) => second.answer,
     };
-    replied((input.method, input.n), answer)
+    replied((method, input.n), answer)
 }
 
-/// The Rust's answer. How many roots are inexact the second implementation says too, and must agree.
-fn asked(method: u8, n: usize, matrix: &[f64]) -> Answer {
-    let answer = factor(method, n, matrix);
-    if answer.refusal == COMPLETE {
-        let second = second::factor(method, n, matrix, None);
-        assert_eq!(answer.inexact, second.inexact, "inexact roots");
+/// The Rust's answer or, where it can't be asked, the second implementation's. Whether it can, and how many roots
+/// are inexact, both say and must agree.
+fn agreed(rust: Watched, second: Judged) -> Answer {
+    assert_eq!(rust.not_positive, second.not_positive, "pivots");
+    match rust.asked() {
+        None => second.answer,
+        Some(answer) => {
+            assert_eq!(answer.inexact, second.answer.inexact, "inexact roots");
+            answer
+        }
     }
-    answer
 }
 
 /// What is answered where a run comes to `answer`.

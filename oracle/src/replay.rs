@@ -1,5 +1,5 @@
-//! The list that the program `replay` runs through the port: records, with the oracle's answers and, where
-//! they have contract numbers, the second implementation's.
+//! The list that the program `replay` runs through the port: records, with the Rust's answers and, where it can't be
+//! asked, the second implementation's.
 
 mod entries;
 mod fields;
@@ -7,6 +7,7 @@ mod generated;
 mod hand;
 mod numbered;
 mod phase_one;
+mod pivots;
 mod roots;
 mod shape;
 mod sides;
@@ -51,6 +52,7 @@ pub fn list() -> Vec<Entry> {
     [
         hand::all(),
         roots::all(),
+        pivots::all(),
         fields::all(),
         shape::all(),
         entries::all(),

@@ -37,6 +37,21 @@ pub fn last_row() -> Vec<f64> {
     diagonal(&[LAST_ROOT * LAST_ROOT / TAU, 0.0])
 }
 
+/// The root of the single last row below.
+pub const SMALL_LAST_ROOT: f64 = LAST_ROOT * SMALL;
+
+/// 2^-325.
+const SMALL: f64 = f64::from_bits((1023 - 325) << 52);
+
+/// Two rows of which SE90 enters phase two at the last one, left as zero, as a product underflows in its test of tmp.
+/// tau times the first entry is the square of `SMALL_LAST_ROOT`; the first entry's own root is inexact.
+pub fn zero_last_row() -> Vec<f64> {
+    let first = last_row()[0] * SMALL * SMALL;
+    let below = first / 2.0;
+    let taken = below / first.sqrt();
+    vec![first, below, below, taken * taken]
+}
+
 /// Also diagonals, of zeros and of subnormal numbers too.
 pub fn all() -> Vec<Vec<f64>> {
     let unit = f64::from_bits(1);
@@ -52,6 +67,7 @@ pub fn all() -> Vec<Vec<f64>> {
     let rows = [STEP, BLOCK_FIRST, BLOCK_SECOND, EIGENVALUES].map(Vec::from);
     let mut all: Vec<Vec<f64>> = diagonals.map(diagonal).into();
     all.extend(rows);
-    all.extend([beta(), last_row(), vec![1.0, 2.0, 2.0, -1.0]]);
+    all.extend([beta(), last_row(), zero_last_row()]);
+    all.push(vec![1.0, 2.0, 2.0, -1.0]);
     all
 }

@@ -1,7 +1,8 @@
-//! The three methods once more, in plain loops, with the settling of ties as a parameter: the judge of
-//! matrices with contract numbers, of which the Rust can't be asked. Written from documents 01 and 02,
-//! statement by statement beside the Rust and apart from the port. Without numbers it has the Rust's
-//! bits: tests/second.rs and the comparison check that. Also the solving that document 02 adds.
+//! The three methods once more, in plain loops, with the settling of ties as a parameter and SE90's test of the
+//! pivot: the judge of matrices with contract numbers, and of those that meet a pivot at or below zero, of which
+//! the Rust can't be asked. Written from documents 01 and 02, statement by statement beside the Rust and apart from
+//! the port. On all others it has the Rust's bits: tests/second.rs and the comparison check that. Also the solving
+//! that document 02 adds.
 
 mod elimination;
 mod gmw81;
@@ -24,7 +25,7 @@ pub fn factor(method: u8, n: usize, a: &[f64], numbers: Option<&[u32]>) -> Answe
     judged(method, n, a, numbers).answer
 }
 
-/// Also the ties of its searches.
+/// Also the ties of its searches, and where SE90 met a pivot at or below zero.
 pub fn judged(method: u8, n: usize, a: &[f64], numbers: Option<&[u32]>) -> Judged {
     assert!((GMW81..=SE99).contains(&method), "method {method}");
     assert!(
@@ -40,6 +41,7 @@ pub fn judged(method: u8, n: usize, a: &[f64], numbers: Option<&[u32]>) -> Judge
     Judged {
         answer: answer(&run, outcome),
         ties: run.ties,
+        not_positive: run.not_positive,
     }
 }
 
@@ -49,7 +51,7 @@ struct Variant {
     method: u8,
     /// Phase one goes on while no diagonal entry ahead is below this share of gamma.
     ahead: f64,
-    /// The share of gamma in phase two's amounts.
+    /// The share of gamma in phase two's amounts: tau in SE90, tau_bar in SE99.
     share: f64,
 }
 

@@ -1,6 +1,10 @@
-//! Document 01's hand calculations, and the cases outside its table.
+//! Document 01's hand calculations as document 02 changes them, and the cases outside its table.
 
-use oracle::{factor, helpers, Answer, COMPLETE, GMW81, NOT_FINITE, SE90, SE99};
+use oracle::{helpers, Answer, COMPLETE, GMW81, NOT_FINITE, SE90, SE99};
+
+fn factor(method: u8, n: usize, a: &[f64]) -> Answer {
+    oracle::answer(method, n, a, None)
+}
 
 /// Equal doubles, +0.0 and -0.0 apart.
 fn same(left: &[f64], right: &[f64]) {
@@ -60,13 +64,42 @@ fn gmw81_of_the_largest_double() {
 
 #[test]
 fn se90() {
-    not_finite(&factor(SE90, 1, &[-4.0]), 0);
     let answer = factor(SE90, 2, &[4.0, 2.0, 2.0, 2.0]);
     complete(&answer, &[2.0, 0.0, 1.0, 1.0], &[0.0, 0.0], &[0, 1]);
     assert_eq!(answer.phase_two, None);
-    let zero = factor(SE90, 2, &[0.0; 4]);
-    not_finite(&zero, 0);
-    assert_eq!(marks(&zero), (Some(0), None));
+}
+
+/// The pivot is negative, or zero: phase two begins.
+#[test]
+fn se90_of_pivots_at_or_below_zero() {
+    let negative = factor(SE90, 1, &[-4.0]);
+    let (l, e) = (0x3f74_28a6_f98f_113f, 0x4010_0006_5982_2e65);
+    let [l, e] = [l, e].map(f64::from_bits);
+    complete(&negative, &[l], &[e], &[0]);
+    assert_eq!(marks(&negative), (None, Some(0)));
+    for zero in [0.0, -0.0] {
+        let answer = factor(SE90, 1, &[zero]);
+        complete(&answer, &[0.0], &[0.0], &[0]);
+        assert_eq!(marks(&answer), (None, Some(0)));
+    }
+    let zeros = factor(SE90, 2, &[0.0; 4]);
+    not_finite(&zeros, 0);
+    assert_eq!(marks(&zeros), (Some(0), Some(0)));
+}
+
+/// The last of two rows: zero is left of it, then -3/4, times a power of two whose square underflows in tmp.
+#[test]
+fn se90_of_a_last_row() {
+    let small = 2f64.powi(-650);
+    let (root, tau) = (2f64.powi(-324), oracle::second::TAU);
+    for (last, left) in [(1.0, 0.0), (0.25, -0.75)] {
+        let answer = factor(SE90, 2, &[4.0, 2.0, 2.0, last].map(|x| x * small));
+        let share = f64::max(tau * 4.0, tau * -left / (1.0 - tau));
+        let amount = (-left + share) * small;
+        let l = [root, 0.0, root / 2.0, (left * small + amount).sqrt()];
+        complete(&answer, &l, &[0.0, amount], &[0, 1]);
+        assert_eq!(marks(&answer), (None, Some(1)));
+    }
 }
 
 #[test]

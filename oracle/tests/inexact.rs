@@ -1,20 +1,25 @@
-//! How many roots of a run's diagonal rounding changed: by the Rust, watched, and by the second implementation.
+//! How many roots of a run's diagonal rounding changed: by the Rust, watched, where it can be asked, and by the second
+//! implementation.
 
 use oracle::generate::cases;
 use oracle::generate::rng::Rng;
 use oracle::operands::square;
 use oracle::record::{matrix_record, reply};
 use oracle::roots::*;
-use oracle::{factor, is_inexact, second, Answer, COMPLETE, GMW81, NOT_FINITE, SE90, SE99};
+use oracle::{asked, is_inexact, second, Answer, COMPLETE, GMW81, NOT_FINITE, SE90, SE99};
 use std::collections::BTreeSet;
 
 /// Both have the same count.
 fn answered(method: u8, a: &[f64]) -> Answer {
     let n = a.len().isqrt();
-    let rust = factor(method, n, a);
     let second = second::factor(method, n, a, None);
-    assert_eq!(rust.inexact, second.inexact);
-    rust
+    match asked(method, n, a) {
+        None => second,
+        Some(rust) => {
+            assert_eq!(rust.inexact, second.inexact);
+            rust
+        }
+    }
 }
 
 fn inexact(method: u8, a: &[f64]) -> usize {
@@ -37,13 +42,15 @@ fn diagonal_matrices() {
     }
 }
 
-/// The root of 0.0 and of -0.0 is exact; GMW81 takes that of 2^-52 instead.
+/// The root of 0.0 and of -0.0 is exact. SE90 takes that of 0.0 alone, GMW81 that of 2^-52 instead.
 #[test]
 fn zeros() {
-    for (method, zero) in [SE90, SE99].into_iter().flat_map(|m| [(m, 0.0), (m, -0.0)]) {
-        let answer = answered(method, &[zero]);
-        assert_eq!((answer.refusal, answer.inexact), (COMPLETE, 0));
-        assert_eq!(answer.l[0].to_bits(), f64::to_bits(zero));
+    for zero in [0.0, -0.0] {
+        for (method, root) in [(SE90, 0.0), (SE99, zero)] {
+            let answer = answered(method, &[zero]);
+            assert_eq!((answer.refusal, answer.inexact), (COMPLETE, 0));
+            assert_eq!(answer.l[0].to_bits(), f64::to_bits(root));
+        }
     }
     assert_eq!(inexact(GMW81, &[0.0]), 0);
     assert_eq!(inexact(GMW81, &diagonal(&[0.0, -0.0])), 0);
@@ -98,23 +105,28 @@ fn the_root_of_the_eigenvalues() {
 
 #[test]
 fn a_single_last_row() {
-    let last = |a: &[f64]| {
-        let answer = answered(SE99, a);
+    let last = |method: u8, a: &[f64]| {
+        let answer = answered(method, a);
         assert_eq!((answer.refusal, answer.phase_two), (COMPLETE, Some(1)));
         (answer.l[3], answer.inexact)
     };
     assert!(is_inexact(second::TAU) && is_inexact(last_row()[0]));
-    assert_eq!(last(&diagonal(&[1.0, 0.0])), (second::TAU.sqrt(), 1));
-    assert_eq!(last(&last_row()), (LAST_ROOT, 1));
-    assert_eq!(inexact(SE99, &[-4.0]), 1);
+    assert_eq!(last(SE99, &diagonal(&[1.0, 0.0])), (second::TAU.sqrt(), 1));
+    assert_eq!(last(SE99, &last_row()), (LAST_ROOT, 1));
+    assert_eq!(last(SE90, &zero_last_row()), (SMALL_LAST_ROOT, 1));
+    assert!(is_inexact(zero_last_row()[0]));
+    for method in [SE90, SE99] {
+        assert_eq!(inexact(method, &[-4.0]), 1);
+    }
 }
 
 #[test]
 fn none_beside_a_refusal() {
-    let underflow = [1e-200, 3e-200, 3e-200, 1e-200];
+    let unit = f64::from_bits(1);
+    let zeros_left = diagonal(&[2.0 * unit, 0.0, 0.0]);
     let given: [(u8, usize, &[f64]); 4] = [
-        (SE90, 0, &[-4.0]),
-        (SE90, 1, &underflow),
+        (SE90, 0, &[-f64::MAX]),
+        (SE90, 1, &zeros_left),
         (GMW81, 1, &[1.7e308, 0.0, 0.0, -1e308]),
         (SE99, 0, &[f64::MAX; 4]),
     ];
@@ -124,7 +136,7 @@ fn none_beside_a_refusal() {
         assert_eq!(answer.inexact, 0);
     }
     // Its first root was taken, and is inexact.
-    assert!(is_inexact(underflow[0]));
+    assert!(is_inexact(zeros_left[0]));
 }
 
 #[test]
@@ -135,7 +147,7 @@ fn field_18_has_the_count() {
         assert_eq!(answer[12..16], [0x18, 1, 0, count]);
         assert_eq!(answer.len(), 18_889);
     }
-    let refused = reply(&matrix_record(SE90, 1, &[-4.0])).record();
+    let refused = reply(&matrix_record(SE90, 1, &[-f64::MAX])).record();
     assert_eq!((refused.len(), refused[12]), (17, 0x17));
 }
 

@@ -118,14 +118,23 @@ fn lengths_and_bytes_after_are_judged_after_the_fields() {
 
 #[test]
 fn a_refused_run_keeps_its_marks() {
-    let zeros = matrix_record(SE90, 2, &[0.0; 4]);
+    let zeros = |method: u8| answer(&matrix_record(method, 2, &[0.0; 4]));
     let wanted = "11 01 00 09 12 01 00 00 13 01 00 FF 17 02 00 00 00";
-    assert_eq!(answer(&zeros), bytes(wanted));
+    assert_eq!(zeros(SE99), bytes(wanted));
+    let wanted = "11 01 00 09 12 01 00 00 13 01 00 00 17 02 00 00 00";
+    assert_eq!(zeros(SE90), bytes(wanted));
     let unit = f64::from_bits(1);
     let mut diagonal = [0.0; 16];
     (diagonal[0], diagonal[15]) = (2.0 * unit, -unit);
     let wanted = "11 01 00 09 12 01 00 FF 13 01 00 00 17 02 00 01 00";
     assert_eq!(answer(&matrix_record(SE90, 4, &diagonal)), bytes(wanted));
+}
+
+#[test]
+fn se90_of_a_negative_entry() {
+    let wanted = "11 01 00 00 12 01 00 FF 13 01 00 00 18 01 00 01 14 01 00 00 \
+                  15 08 00 65 2E 82 59 06 00 10 40 16 08 00 3F 11 8F F9 A6 28 74 3F";
+    assert_eq!(answer(&matrix_record(SE90, 1, &[-4.0])), bytes(wanted));
 }
 
 #[test]

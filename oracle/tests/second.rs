@@ -1,9 +1,10 @@
-//! The second implementation: the Rust's bits without numbers, and ties by number by hand.
+//! The second implementation: the Rust's bits where it can be asked, SE90's test of the pivot, and ties by number by
+//! hand.
 
 use oracle::generate::rng::Rng;
 use oracle::generate::{cases, matrix, KINDS};
 use oracle::second::{factor, judged, Ties};
-use oracle::{Answer, GMW81, NOT_FINITE, SE90, SE99};
+use oracle::{watched, Answer, COMPLETE, GMW81, NOT_FINITE, SE90, SE99};
 
 /// Equal also in the signs of zeros.
 fn same(x: &Answer, y: &Answer) -> bool {
@@ -11,18 +12,54 @@ fn same(x: &Answer, y: &Answer) -> bool {
     x == y && bits(&x.l) == bits(&y.l) && bits(&x.e) == bits(&y.e)
 }
 
-#[test]
-fn without_numbers_it_has_the_rusts_bits() {
-    let (mut tied, mut two, mut refused) = (0, 0, 0);
-    for case in cases(6000, 12, 3).chain(cases(1500, 48, 4)) {
-        let rust = oracle::factor(case.method, case.n, &case.matrix);
-        let second = factor(case.method, case.n, &case.matrix, None);
-        assert!(same(&second, &rust), "{case:?}");
-        tied += usize::from(rust.tied.is_some());
-        two += usize::from(rust.phase_two.is_some());
-        refused += usize::from(rust.refusal == NOT_FINITE);
+/// How the second implementation stands beside the Rust.
+#[derive(Clone, Copy, PartialEq)]
+enum Beside {
+    Asked,
+    /// SE90 met a pivot at or below zero where the Rust's own test ends phase one too: the answer is the same.
+    SameEnd,
+    /// The Rust goes on from such a pivot, to 9 or, at a last zero, to its root.
+    GoesOn,
+}
+
+fn beside(method: u8, n: usize, a: &[f64]) -> (Beside, Answer) {
+    let (rust, second) = (watched(method, n, a), judged(method, n, a, None));
+    assert_eq!(rust.not_positive, second.not_positive);
+    let beside = match rust.not_positive {
+        None => Beside::Asked,
+        met if met == rust.answer.phase_two => Beside::SameEnd,
+        Some(step) => {
+            goes_on(n, step, &rust.answer);
+            return (Beside::GoesOn, second.answer);
+        }
+    };
+    assert!(same(&second.answer, &rust.answer), "{method} {n} {a:?}");
+    (beside, second.answer)
+}
+
+fn goes_on(n: usize, step: usize, rust: &Answer) {
+    assert_eq!(rust.phase_two, None);
+    match rust.refusal {
+        COMPLETE => assert!(step + 1 == n && rust.l[n * n - 1] == 0.0),
+        _ => assert_eq!((rust.refusal, rust.step), (NOT_FINITE, step)),
     }
-    assert!(tied > 2000 && two > 1500 && refused > 1500);
+}
+
+#[test]
+fn it_has_the_rusts_bits_where_the_rust_can_be_asked() {
+    let found: Vec<(Beside, Answer)> = cases(6000, 12, 3)
+        .chain(cases(1500, 48, 4))
+        .map(|case| beside(case.method, case.n, &case.matrix))
+        .collect();
+    let count = |wanted: Beside, test: fn(&Answer) -> bool| {
+        let own = found.iter().filter(|(beside, _)| *beside == wanted);
+        own.filter(|(_, answer)| test(answer)).count()
+    };
+    assert!(count(Beside::Asked, |answer| answer.tied.is_some()) > 2000);
+    assert!(count(Beside::Asked, |answer| answer.phase_two.is_some()) > 1500);
+    assert!(count(Beside::Asked, |answer| answer.refusal == NOT_FINITE) > 1500);
+    assert!(count(Beside::SameEnd, |_| true) > 100);
+    assert!(count(Beside::GoesOn, |_| true) > 300);
 }
 
 #[test]
@@ -31,12 +68,7 @@ fn every_n_with_every_kind() {
         for (index, kind) in KINDS.into_iter().enumerate() {
             let method = GMW81 + ((index + n) % 3) as u8;
             let mut rng = Rng::new(5, (n * 100 + index) as u64);
-            let a = matrix(kind, method, n, n / 2, &mut rng);
-            let rust = oracle::factor(method, n, &a);
-            assert!(
-                same(&factor(method, n, &a, None), &rust),
-                "{kind:?} {method} {n}"
-            );
+            beside(method, n, &matrix(kind, method, n, n / 2, &mut rng));
         }
     }
 }
@@ -92,13 +124,13 @@ fn numbers_only_settle_ties() {
     for (index, case) in cases(3000, 9, 8).enumerate() {
         let numbers: Vec<u32> = permutation(case.n, index);
         let found = judged(case.method, case.n, &case.matrix, Some(&numbers));
-        let rust = oracle::factor(case.method, case.n, &case.matrix);
+        let without = oracle::answer(case.method, case.n, &case.matrix, None);
         if found.ties == Ties::default() {
-            assert!(same(&found.answer, &rust));
+            assert!(same(&found.answer, &without));
             untied += 1;
         }
         if found.ties.moved + found.ties.moved_unreported == 0 {
-            assert!(same(&found.answer, &rust));
+            assert!(same(&found.answer, &without));
         }
     }
     assert!(untied > 1000);

@@ -1,6 +1,13 @@
-//! Which values count as stored, and at which step.
+//! Which values count as stored, and at which step: what the Rust does and, where SE90 meets a pivot at or below
+//! zero, what documents 01 and 02 ask for.
 
-use oracle::{factor, helpers, COMPLETE, GMW81, NOT_FINITE, SE90, SE99};
+use oracle::{answer, asked, factor, helpers, Answer, COMPLETE, GMW81, NOT_FINITE, SE90, SE99};
+
+/// What SE90 is asked for where the Rust can't be.
+fn left_out(n: usize, a: &[f64]) -> Answer {
+    assert_eq!(asked(SE90, n, a), None);
+    answer(SE90, n, a, None)
+}
 
 fn refused(method: u8, n: usize, a: &[f64]) -> (u8, usize) {
     let answer = factor(method, n, a);
@@ -34,6 +41,9 @@ fn squares_that_underflow_in_the_test() {
         (se90.refusal, se90.step, se90.phase_two),
         (NOT_FINITE, 1, None)
     );
+    let wanted = left_out(2, &matrix);
+    assert_eq!((wanted.refusal, wanted.phase_two), (COMPLETE, Some(1)));
+    assert_eq!(wanted.tied, Some(0));
     let se99 = factor(SE99, 2, &matrix);
     assert_eq!((se99.refusal, se99.phase_two), (COMPLETE, Some(1)));
     assert_eq!((se90.tied, se99.tied), (Some(0), Some(0)));
@@ -48,6 +58,9 @@ fn zero_pivot_after_a_pivot_whose_tolerance_underflows() {
         assert_eq!((answer.refusal, answer.step), (NOT_FINITE, 1));
         assert_eq!((answer.tied, answer.phase_two), (Some(1), None));
     }
+    let wanted = left_out(3, &matrix);
+    assert_eq!((wanted.refusal, wanted.step), (NOT_FINITE, 1));
+    assert_eq!((wanted.tied, wanted.phase_two), (Some(1), Some(1)));
 }
 
 #[test]
@@ -56,7 +69,22 @@ fn negative_pivot_that_passes_the_test_of_se90() {
     let se90 = factor(SE90, 2, &matrix);
     assert_eq!((se90.refusal, se90.step), (NOT_FINITE, 0));
     assert_eq!((se90.tied, se90.phase_two), (Some(0), None));
+    let wanted = left_out(2, &matrix);
+    assert_eq!(wanted.refusal, COMPLETE);
+    assert_eq!((wanted.tied, wanted.phase_two), (Some(0), Some(0)));
     assert_eq!(factor(SE99, 2, &matrix).phase_two, Some(0));
+}
+
+#[test]
+fn amount_of_a_single_row_that_overflows() {
+    for method in [SE90, SE99] {
+        let refused = answer(method, 1, &[-f64::MAX], None);
+        assert_eq!((refused.refusal, refused.step), (NOT_FINITE, 0));
+        assert_eq!((refused.tied, refused.phase_two), (None, Some(0)));
+        let accepted = answer(method, 1, &[-f64::MAX / 2.0], None);
+        assert_eq!((accepted.refusal, accepted.phase_two), (COMPLETE, Some(0)));
+    }
+    assert_eq!(factor(SE90, 1, &[-f64::MAX]).phase_two, None);
 }
 
 #[test]
@@ -89,6 +117,7 @@ fn zeros_of_either_sign_tie() {
 #[test]
 fn the_sign_of_a_zero_factor() {
     assert_eq!(factor(SE90, 1, &[-0.0]).l[0].to_bits(), (-0.0f64).to_bits());
+    assert_eq!(left_out(1, &[-0.0]).l[0].to_bits(), 0.0f64.to_bits());
     assert_eq!(factor(SE99, 1, &[-0.0]).l[0].to_bits(), (-0.0f64).to_bits());
     let answer = factor(GMW81, 2, &[1.0, -0.0, -0.0, 1.0]);
     assert_eq!(answer.l[2].to_bits(), 0.0f64.to_bits());
@@ -101,6 +130,8 @@ fn no_search_where_the_first_test_of_se99_ends_phase_one() {
     assert_eq!((se99.tied, se99.phase_two), (None, Some(0)));
     let se90 = factor(SE90, 2, &matrix);
     assert_eq!((se90.tied, se90.phase_two), (Some(0), Some(0)));
+    // The test of the pivot ends it too.
+    assert_eq!(left_out(2, &matrix), se90);
 }
 
 #[test]

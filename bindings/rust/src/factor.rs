@@ -147,7 +147,8 @@ pub fn mod_cholesky_gmw81(a: &[f64], n: usize) -> Result<Decomposition, Refusal>
     decompose(Method::Gmw81, a, n, None)
 }
 
-/// The factorization of Schnabel and Eskow (1990) of the symmetric matrix `a`.
+/// The factorization of Schnabel and Eskow (1990) of the symmetric matrix `a`. Phase one ends also on a pivot
+/// that is zero or negative.
 pub fn mod_cholesky_se90(a: &[f64], n: usize) -> Result<Decomposition, Refusal> {
     decompose(Method::Se90, a, n, None)
 }

@@ -144,6 +144,28 @@ fn decompositions() {
     assert!(d.e[0] > 4.0);
 }
 
+/// SE90's phase one ends on a pivot at or below zero.
+#[test]
+fn pivots_at_or_below_zero() {
+    let d = mod_cholesky_se90(&[-4.0], 1).unwrap();
+    assert_eq!((d.tied, d.phase2, d.inexact), (None, Some(0), 1));
+    assert_eq!(d.e[0].to_bits(), 0x4010_0006_5982_2e65);
+    assert_eq!(d.l[0].to_bits(), 0x3f74_28a6_f98f_113f);
+    for zero in [0.0, -0.0] {
+        let d = mod_cholesky_se90(&[zero], 1).unwrap();
+        assert_eq!(
+            (d.phase2, d.l[0].to_bits(), d.e[0].to_bits()),
+            (Some(0), 0, 0)
+        );
+    }
+    let d = mod_cholesky_se90(&[-1.0, 2.0, 2.0, -1.0], 2).unwrap();
+    assert_eq!((d.tied, d.phase2), (Some(0), Some(0)));
+    // The second pivot, of the last row: the square of 3e-200 is zero in the test and not in the step.
+    let d = mod_cholesky_se90(&[1e-200, 3e-200, 3e-200, 1e-200], 2).unwrap();
+    assert_eq!((d.tied, d.phase2, d.e[0]), (Some(0), Some(1), 0.0));
+    assert!(d.e[1] > 8e-200);
+}
+
 #[test]
 fn inexact_roots() {
     for call in [mod_cholesky_gmw81, mod_cholesky_se90, mod_cholesky_se99] {
@@ -206,13 +228,11 @@ fn lent_buffers() {
     assert_eq!((l, work, e, p), ([7.0; 4], [7.0; 4], [7.0; 2], [7; 2]));
     let ended = factor(Method::Se90, &a, 2, &mut l, &mut work, &mut e, &mut p);
     assert_eq!(ended.outcome, Err(Refusal::StoredNotFinite { step: 0 }));
-    assert_eq!((ended.tied, ended.inexact), (Some(0), 0));
+    assert_eq!(
+        (ended.tied, ended.phase2, ended.inexact),
+        (Some(0), Some(0), 0)
+    );
     assert_eq!((l, work, e, p), ([0.0; 4], [0.0; 4], [0.0; 2], [0, 1]));
-    // The first root was taken and is inexact; the run is refused at step 1.
-    let a = [1e-200, 3e-200, 3e-200, 1e-200];
-    let ended = factor(Method::Se90, &a, 2, &mut l, &mut work, &mut e, &mut p);
-    assert_eq!(ended.outcome, Err(Refusal::StoredNotFinite { step: 1 }));
-    assert_eq!(ended.inexact, 0);
     let ended = factor(
         Method::Gmw81,
         &[4.0, 0.0, 0.0, 3.0],
@@ -223,6 +243,21 @@ fn lent_buffers() {
         &mut p,
     );
     assert_eq!((ended.outcome, ended.inexact), (Ok(()), 1));
+}
+
+/// The first root was taken and is inexact; the second pivot is zero, and phase two is refused at step 1.
+#[test]
+fn no_count_beside_a_refusal() {
+    let (mut l, mut work) = ([7.0; 9], [7.0; 9]);
+    let (mut e, mut p) = ([7.0; 3], [7; 3]);
+    let mut a = [0.0; 9];
+    a[0] = f64::from_bits(2);
+    let ended = factor(Method::Se90, &a, 3, &mut l, &mut work, &mut e, &mut p);
+    assert_eq!(ended.outcome, Err(Refusal::StoredNotFinite { step: 1 }));
+    assert_eq!(
+        (ended.tied, ended.phase2, ended.inexact),
+        (Some(1), Some(1), 0)
+    );
 }
 
 /// The diagonal 1, 1, 3: after the first swap contract 0 stands last.

@@ -1,7 +1,7 @@
 -- The fourteen hand calculations, by computation of the definitions; and the cases outside the table.
 use mathlib.Core.Path.{_≡_, refl}
 use mathlib.Core.List.{[], _∷_}
-use lib.Ieee.{add, sub, mul, div, lt, eq, neg, isNan, ofBits}
+use lib.Ieee.{add, sub, mul, div, lt, le, eq, neg, isNan, ofBits}
 use Rattle.arithmetic.specs.First.{firstFrom}
 use Rattle.arithmetic.specs.Outcome.{_then_}
 use Rattle.arithmetic.specs.Sqrt.{sqrt-call}
@@ -16,10 +16,10 @@ use Rattle.methods.specs.Progress.{oneIf}
 use Rattle.methods.specs.declared.method.Method.the-variants.{Gmw81, Se}
 use Rattle.methods.specs.declared.decomposition.Mark.the-variants.{Step}
 use Rattle.methods.specs.declared.schnabel_eskow.Variant.the-variants.{Se90, Se99}
-use Rattle.hand.specs.Hand.{4·, minus, All, rows, RootsCounted, OrdersOf}
+use Rattle.hand.specs.Hand.{4·, minus, All, rows, pivotsAtOrBelowZero, RootsCounted, OrdersOf}
 
 pub hand-calculations : All rows
-unfolding factor add sub mul div lt eq neg isNan ofBits firstFrom sqrt-call eigenvalues-2x2-call search-checks largest circle-checks setEach firstOverflow _then_ eigenvaluesOf oneIf
+unfolding factor add sub mul div lt le eq neg isNan ofBits firstFrom sqrt-call eigenvalues-2x2-call search-checks largest circle-checks setEach firstOverflow _then_ eigenvaluesOf oneIf
 hand-calculations = (refl, (refl, (refl, (refl, (refl, (refl, (refl, (refl, (refl, (refl, (refl, (refl, ((refl, refl), (refl, tt))))))))))))))
 
 -- ---- outside the table
@@ -35,6 +35,11 @@ size-0 = refl
 pub se99-enters : factor (Se Se99) tolerances [] 1 (minus 4· ∷ []) .decomposition .phase2 ≡ Step 0
 unfolding factor add sub mul div lt eq neg isNan ofBits
 se99-enters = refl
+
+-- ---- SE90's pivots at or below zero
+pub pivots-at-or-below-zero : All pivotsAtOrBelowZero
+unfolding factor add sub mul div lt le eq neg isNan ofBits eigenvaluesOf oneIf
+pivots-at-or-below-zero = (refl, (refl, (refl, (refl, (refl, (refl, tt))))))
 
 -- ---- which roots count
 pub roots-counted : RootsCounted

@@ -1,5 +1,5 @@
 -- Document 01's section 'Hand calculations': the fourteen as rows of one table, all without contract numbers, with document 02's count of
--- inexact roots. proofs/Rows.antt: `hand-calculations`, one fact over all rows.
+-- inexact roots, and SE90's as N6 changes them. proofs/Rows.antt: `hand-calculations`, one fact over all rows.
 use mathlib.Core.Path.{_≡_}
 use mathlib.Core.Bool.{Bool, true, false}
 use mathlib.Core.List.{List, [], _∷_}
@@ -64,8 +64,11 @@ abbrev 2^-537 : Float
 abbrev 2^-1074 : Float
 2^-1074 = fin false 1 (negsuc 1073)
 
+abbrev bits : ℕ → Float
+bits pattern = ofBits binary64 pattern
+
 abbrev largest-double : Float
-largest-double = ofBits binary64 0x7fef_ffff_ffff_ffff
+largest-double = bits 0x7fef_ffff_ffff_ffff
 
 -- ---- a row: which calculation it is, and what comes out
 pub data Row : Type 0 where
@@ -103,13 +106,29 @@ rows =
     ∷ factorization Gmw81 2 (2· ∷ 2· ∷ 2· ∷ 4· ∷ []) Complete Never Never 0 (2· ∷ 0· ∷ 1· ∷ 1· ∷ []) (0· ∷ 0· ∷ []) (1 ∷ 0 ∷ [])
     ∷ factorization Gmw81 2 (1· ∷ 0· ∷ 0· ∷ 1· ∷ []) Complete (Step 0) Never 0 (1· ∷ 0· ∷ 0· ∷ 1· ∷ []) (0· ∷ 0· ∷ []) (0 ∷ 1 ∷ [])
     ∷ factorization Gmw81 2 (largest-double ∷ largest-double ∷ largest-double ∷ largest-double ∷ []) (StoredNotFinite 0) (Step 0) Never 0 (zeros 4) (zeros 2) (0 ∷ 1 ∷ [])
-    ∷ factorization (Se Se90) 1 (minus 4· ∷ []) (StoredNotFinite 0) Never Never 0 (zeros 1) (zeros 1) (0 ∷ [])
+    ∷ factorization (Se Se90) 1 (minus 4· ∷ []) Complete Never (Step 0) 1 (bits 0x3f74_28a6_f98f_113f ∷ []) (bits 0x4010_0006_5982_2e65 ∷ []) (0 ∷ [])
     ∷ factorization (Se Se90) 2 (4· ∷ 2· ∷ 2· ∷ 2· ∷ []) Complete Never Never 0 (2· ∷ 0· ∷ 1· ∷ 1· ∷ []) (0· ∷ 0· ∷ []) (0 ∷ 1 ∷ [])
-    ∷ factorization (Se Se90) 2 (0· ∷ 0· ∷ 0· ∷ 0· ∷ []) (StoredNotFinite 0) (Step 0) Never 0 (zeros 4) (zeros 2) (0 ∷ 1 ∷ [])
+    ∷ factorization (Se Se90) 2 (0· ∷ 0· ∷ 0· ∷ 0· ∷ []) (StoredNotFinite 0) (Step 0) (Step 0) 0 (zeros 4) (zeros 2) (0 ∷ 1 ∷ [])
     ∷ eigenvalues ((2· ∷ 1· ∷ []) ∷ (1· ∷ 2· ∷ []) ∷ []) 3· 1·
     ∷ circles 2 (1· ∷ minus 2· ∷ 3· ∷ 4· ∷ []) (1· ∷ 4· ∷ []) (2· ∷ 2· ∷ [])
     ∷ searches (3· ∷ minus 5· ∷ 3· ∷ []) 0 1
     ∷ root 2^-1074 2^-537 false
+    ∷ []
+
+-- ---- SE90's pivots at or below zero (document 02, N6): proofs/Rows.antt, `pivots-at-or-below-zero`
+abbrev pub pivotsAtOrBelowZero : List Row
+pivotsAtOrBelowZero =
+    -- zeros of either sign
+    factorization (Se Se90) 1 (0· ∷ []) Complete Never (Step 0) 0 (0· ∷ []) (0· ∷ []) (0 ∷ [])
+    ∷ factorization (Se Se90) 1 (minus 0· ∷ []) Complete Never (Step 0) 0 (0· ∷ []) (0· ∷ []) (0 ∷ [])
+    -- the last of two rows; the first pivot is above zero though row 0 is not
+    ∷ factorization (Se Se90) 2 (0· ∷ 0· ∷ 0· ∷ 2^-1074 ∷ []) Complete Never (Step 1) 0 (2^-537 ∷ 0· ∷ 0· ∷ 0· ∷ []) (0· ∷ 0· ∷ []) (1 ∷ 0 ∷ [])
+    -- a pivot that tmp, of a large column, passes; its tie is kept
+    ∷ factorization (Se Se90) 2 (minus 1· ∷ 2· ∷ 2· ∷ minus 1· ∷ []) Complete (Step 0) (Step 0) 2 (bits 0x3ff6_a0a7_614e_65d5 ∷ 0· ∷ bits 0x3ff6_a095_6bb3_a20c ∷ bits 0x3f7c_823e_0750_7a28 ∷ []) (bits 0x4008_000c_b304_5cc9 ∷ bits 0x4008_000c_b304_5cc9 ∷ []) (0 ∷ 1 ∷ [])
+    -- the test comes after the swap
+    ∷ factorization (Se Se90) 2 (minus 3· ∷ 0· ∷ 0· ∷ minus 1· ∷ []) Complete Never (Step 0) 2 (bits 0x3ff6_a0a5_2298_44a4 ∷ 0· ∷ 0· ∷ bits 0x3f71_753e_0ec6_399a ∷ []) (bits 0x4008_0009_863f_7df7 ∷ bits 0x4008_0009_863f_7df7 ∷ []) (1 ∷ 0 ∷ [])
+    -- the amount overflows
+    ∷ factorization (Se Se90) 1 (minus largest-double ∷ []) (StoredNotFinite 0) Never (Step 0) 0 (zeros 1) (zeros 1) (0 ∷ [])
     ∷ []
 
 -- ---- which roots count (document 02, N5): proofs/Rows.antt, `roots-counted`

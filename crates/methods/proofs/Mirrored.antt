@@ -141,7 +141,7 @@ module _ (n : ℕ) (m : List Float) where
 
   pub leavesAfter-mirrored : (v : Variant) (t : Tolerances) (gamma : Float) (j : ℕ) → j < n → leavesAfter v t gamma n j (mirrored n m) ≡ leavesAfter v t gamma n j m
   unfolding leavesAfter
-  leavesAfter-mirrored Se90 t gamma j p = rw (tmpOf-mirrored j p)
+  leavesAfter-mirrored Se90 t gamma j p = rw (on-diagonal j p, tmpOf-mirrored j p)
   leavesAfter-mirrored Se99 t gamma j p = rw (tmpOf-mirrored j p)
 
   rowSum-mirrored : (i a : ℕ) → i < n → a ≤ i → rowSum n (mirrored n m) i a i ≡ rowSum n m i a i

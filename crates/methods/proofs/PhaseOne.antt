@@ -1,14 +1,15 @@
--- The tests of phase one come out alike along moved positions.
+-- The tests of phase one come out alike along moved positions; and what the test after the search comes to at the last step.
 use mathlib.Core.Path.{_≡_, refl, ap, ap₂, _∙_}
 use mathlib.Core.List.{List}
-use mathlib.Core.Bool.{true, false, _||_}
+use mathlib.Core.Bool.{true, false, _||_, or-false}
 use Prim.Native.Nat.{ℕ, _+_, _≤_, _<_}
 use native.Mathlib.Omega.{arith}
 use lib.Dec.{T}
-use lib.Ieee.{Float, nan, inf, fin, binary64, lt, neg, fits}
+use lib.Ieee.{Float, inf, binary64, lt, le, neg, fits}
 use lib.Ieee.Scale.{finite}
-use Rattle.arithmetic.specs.Double.{_⊖_, _⊗_, _⊘_, square}
+use Rattle.arithmetic.specs.Double.{plus-zero, _⊖_, _⊗_, _⊘_, square}
 use Rattle.arithmetic.proofs.LoopLaws.{range-none}
+use Rattle.arithmetic.proofs.OrderLaws.{none-above-infinity}
 use Rattle.arithmetic.proofs.Folds.{smallest, greatest}
 use Rattle.matrix.specs.Matrix.{at}
 use Rattle.matrix.proofs.Bijection.{Bijection, Fixes, bijection-from, Along}
@@ -33,25 +34,23 @@ tmp-along n j σ τ A B x pj P f M s = smallest-along (j + 1) n σ τ (next A) (
 pub leavesAfter-along : (v : Variant) (t : Tolerances) (gamma : Float) (n j : ℕ) (σ τ : ℕ → ℕ) (A B : List Float) → j < n → Bijection 0 n σ τ → Fixes n (j + 1) σ → Moved n σ A B
     → ((x y : ℕ) → x < n → y < n → at n A x y ≡ at n A y x) → leavesAfter v t gamma n j A ≡ leavesAfter v t gamma n j B
 unfolding leavesAfter
-leavesAfter-along Se90 t gamma n j σ τ A B pj P f M s = tmp-along n j σ τ A B (t .tau ⊗ gamma) pj P f M s
+leavesAfter-along Se90 t gamma n j σ τ A B pj P f M s = rw (moved-corner n j σ τ A B pj P f M s, tmp-along n j σ τ A B (t .tau ⊗ gamma) pj P f M s)
 leavesAfter-along Se99 t gamma n j σ τ A B pj P f M s = tmp-along n j σ τ A B (neg (t .mu) ⊗ gamma) pj P f M s
 
--- the last step stays in phase one: nothing is folded, and infinity is below nothing
-infinity-top : (x : Float) → lt (inf false) x ≡ false
-unfolding lt
-infinity-top nan = refl
-infinity-top (inf true) = refl
-infinity-top (inf false) = refl
-infinity-top (fin s m e) = refl
-
+-- ---- the last step: nothing is folded, and infinity is below nothing
 nothing-folded : (n j : ℕ) (l : List Float) (x : Float) → n ≤ j + 1 → lt (tmpOf n j l) x ≡ false
 unfolding tmpOf
-nothing-folded n j l x h = ap (λ (y : Float). lt y x) (range-none (j + 1) n (foldNext n j l) (inf false) h) ∙ infinity-top x
+nothing-folded n j l x h = ap (λ (y : Float). lt y x) (range-none (j + 1) n (foldNext n j l) (inf false) h) ∙ none-above-infinity x
 
-pub last-stays : (v : Variant) (t : Tolerances) (gamma : Float) (n j : ℕ) (l : List Float) → n ≤ j + 1 → leavesAfter v t gamma n j l ≡ false
+-- SE99's test after the search stays in phase one
+pub se99-stays-last : (t : Tolerances) (gamma : Float) (n j : ℕ) (l : List Float) → n ≤ j + 1 → leavesAfter Se99 t gamma n j l ≡ false
 unfolding leavesAfter
-last-stays Se90 t gamma n j l h = nothing-folded n j l (t .tau ⊗ gamma) h
-last-stays Se99 t gamma n j l h = nothing-folded n j l (neg (t .mu) ⊗ gamma) h
+se99-stays-last t gamma n j l h = nothing-folded n j l (neg (t .mu) ⊗ gamma) h
+
+-- SE90 leaves it exactly where the pivot is at or below zero
+pub se90-leaves-last : (t : Tolerances) (gamma : Float) (n j : ℕ) (l : List Float) → n ≤ j + 1 → leavesAfter Se90 t gamma n j l ≡ le (at n l j j) plus-zero
+unfolding leavesAfter
+se90-leaves-last t gamma n j l h = rw (nothing-folded n j l (t .tau ⊗ gamma) h) (or-false (le (at n l j j) plus-zero))
 
 -- before the pivot: 0 to j - 1 are fixed
 pub leavesBefore-along : (v : Variant) (t : Tolerances) (gamma : Float) (n j : ℕ) (σ τ : ℕ → ℕ) (A B : List Float) → j < n → Bijection 0 n σ τ → Fixes n j σ → Moved n σ A B

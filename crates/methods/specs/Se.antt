@@ -1,12 +1,12 @@
--- SE90 and SE99, statement by statement beside src/se90.rs and src/se99.rs. They share all but the tests of phase one, the least
--- amount and the last amount.
+-- SE90 and SE99, statement by statement beside src/se90.rs and src/se99.rs, SE90 with document 02's N6. They share all but the tests of
+-- phase one, the least amount and the last amount.
 use mathlib.Core.Path.{_≡_}
 use mathlib.Core.List.{List}
 use mathlib.Core.Bool.{Bool, true, false, cond, _&&_, _||_}
 use Prim.Native.Nat.{ℕ, _+_, _-_}
 use lib.ListN.{getD, set}
 use lib.Dec.{eqb}
-use lib.Ieee.{Float, nan, inf, lt, neg}
+use lib.Ieee.{Float, nan, inf, lt, le, neg}
 use lib.Ieee.Scale.{finite}
 use Rattle.arithmetic.specs.All.{all}
 use Rattle.arithmetic.specs.Double.{plus-zero, one, epsilon, _⊕_, _⊖_, _⊗_, _⊘_, square, abs, max}
@@ -78,10 +78,11 @@ leavesBefore Se99 t gamma n j l =
     let aii-max = aiiMax n j l in
     lt aii-max (t .«tau_bar» ⊗ gamma) || lt (aiiMin n j l) (neg (t .mu) ⊗ aii-max)
 
--- the test after search and swap, of step j on the matrix with its pivot at (j, j)
+-- the test after search and swap, of step j on the matrix with its pivot at (j, j): SE90 also ends on a pivot that is zero, of either
+-- sign, or negative (document 02, N6)
 unfoldable pub leavesAfter : Variant → Tolerances → Float → ℕ → ℕ → List Float → Bool
-unfolding tmpOf lt neg
-leavesAfter Se90 t gamma n j l = lt (tmpOf n j l) (t .tau ⊗ gamma)
+unfolding tmpOf lt le neg
+leavesAfter Se90 t gamma n j l = le (at n l j j) plus-zero || lt (tmpOf n j l) (t .tau ⊗ gamma)
 leavesAfter Se99 t gamma n j l = lt (tmpOf n j l) (neg (t .mu) ⊗ gamma)
 
 -- the run leaves phase one at step j
@@ -226,7 +227,7 @@ pairOf v t gamma n l delta-prev =
     let x = eigenvaluesOf (at n l a a) (at n l a b) (at n l b a) (at n l b b) in
     Pair x (max (max plus-zero (lastAmount v t gamma x)) delta-prev)
 
--- one row remains, which SE99 alone can meet: e[j] = -l[(j, j)] + (tau_bar * gamma).max(tau * (-l[(j, j)]) / (1.0 - tau))
+-- one row remains. SE99: e[j] = -l[(j, j)] + (tau_bar * gamma).max(tau * (-l[(j, j)]) / (1.0 - tau)); SE90 has tau in place of tau_bar (N6)
 unfoldable pub oneOf : Variant → Tolerances → Float → Float → Last
 unfolding leastAmount neg
 oneOf v t gamma ljj = One (neg ljj ⊕ max (leastAmount v t gamma) (t .tau ⊗ neg ljj ⊘ (one ⊖ t .tau)))

@@ -1,7 +1,7 @@
 // What a factorization hands back beside the factor, the amounts and the pivot order.
 ghost use mathlib.Core.Path.{_≡_};
 ghost use Rattle.methods.specs.Marks.{mark, marked};
-ghost use Rattle.methods.specs.Result.{filledCount};
+ghost use Rattle.methods.specs.Result.{outcomeOf, filledCount};
 use arithmetic::outcome::Outcome;
 
 // A step, or none: the first one stays.
@@ -22,6 +22,16 @@ impl Mark {
                 Mark::Never
             }
             Mark::Step(k) => Mark::Step(k),
+        }
+    }
+
+    // How a run ended that was refused at this step.
+    pub fn outcome_of(self) -> Outcome
+        ensures { λ r. ⌜ r ≡ outcomeOf self ⌝ }
+    {
+        match self {
+            Mark::Never => Outcome::Complete,
+            Mark::Step(j) => Outcome::StoredNotFinite { step: j },
         }
     }
 

@@ -2,7 +2,7 @@
 ghost use mathlib.Core.Path.{_≡_};
 ghost use Prim.Native.Nat.{_*_, _≤_};
 ghost use lib.ListN.{length};
-ghost use Rattle.methods.specs.Result.{handBack, outcomeOf};
+ghost use Rattle.methods.specs.Result.{handBack};
 ghost use Rattle.methods.specs.Calls.{call, unstarted, answered, check-method, number-checks, operandChain, operand-checks, factor-checks, callWith, factor-call, factor-numbered-call, Operands};
 ghost use Rattle.methods.specs.Factor.{factor, tolerances};
 use crate::gmw81;
@@ -124,15 +124,6 @@ pub fn untouched(outcome: Outcome) -> Decomposition
     }
 }
 
-fn outcome_of(refused: Mark) -> Outcome
-    ensures { λ r. ⌜ r ≡ outcomeOf refused ⌝ }
-{
-    match refused {
-        Mark::Never => Outcome::Complete,
-        Mark::Step(j) => Outcome::StoredNotFinite { step: j },
-    }
-}
-
 // The result of a run, with refusal 9's fillings; the work buffer becomes +0.0 throughout.
 pub fn hand_back(
     l: &mut [f64],
@@ -155,7 +146,7 @@ pub fn hand_back(
         count_up(p);
     }
     Decomposition {
-        outcome: outcome_of(refused),
+        outcome: refused.outcome_of(),
         tied,
         phase2,
         inexact: refused.filled_count(r.inexact),

@@ -114,16 +114,20 @@ fn leaves_before(v: Variant, t: Tolerances, gamma: f64, l: &[f64], n: usize, j: 
     }
 }
 
-// The test after search and swap.
+// The test after search and swap: SE90 also ends on a pivot that is zero or negative.
 fn leaves_after(v: Variant, t: Tolerances, gamma: f64, l: &[f64], n: usize, j: usize) -> bool
     requires { ⌜ Square n (now l) ⌝ }
     requires { ⌜ j < n ⌝ }
     ensures { λ r. ⌜ r ≡ leavesAfter v t gamma n j (now (l .entry)) ⌝ }
 {
-    let tmp = tmp_of(l, n, j);
     match v {
-        Variant::Se90 => tmp < t.tau * gamma,
-        Variant::Se99 => tmp < -t.mu * gamma,
+        Variant::Se90 => {
+            if get(l, n, j, j) <= 0.0 {
+                return true;
+            }
+            tmp_of(l, n, j) < t.tau * gamma
+        }
+        Variant::Se99 => tmp_of(l, n, j) < -t.mu * gamma,
     }
 }
 

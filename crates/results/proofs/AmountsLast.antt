@@ -1,36 +1,42 @@
--- The amount of a single last row, which SE99 reaches by its first test: -x + max(tau_bar * gamma, ..) is not negative.
-use mathlib.Core.Path.{_≡_, refl, sym, ap₂, _∙_}
+-- The amount of a single last row, -x + max(least amount, ..), is not negative: SE99 reaches it by its first test, SE90 on a pivot at or
+-- below zero.
+use mathlib.Core.Path.{_≡_, refl, sym, ap₂, _∙_, subst}
 use mathlib.Core.Bool.{true, false, cond, _||_, false≢true}
 use mathlib.Core.List.{List}
+use mathlib.Core.Logic.{inl, inr}
 use Prim.Native.Nat.{ℕ, _+_, _-_, _<_}
 use native.Mathlib.Omega.{arith}
+use lib.Dec.{T}
 use lib.Ieee.{Float, nan, inf, fin, neg, lt, isNan, ofBits}
-use Rattle.arithmetic.specs.Double.{plus-zero, one, _⊕_, _⊖_, _⊗_, _⊘_, abs, max}
+use Rattle.arithmetic.specs.Double.{plus-zero, _⊕_, _⊗_, abs, max}
 use Rattle.arithmetic.specs.Loop.{range}
 use Rattle.arithmetic.proofs.LoopLaws.{range-ind, range-more, range-none}
 use Rattle.arithmetic.proofs.OrderLaws.{lt-transitive, lt-cotransitive, none-above-infinity}
 use Rattle.arithmetic.proofs.SignLaws.{abs-sign}
 use Rattle.arithmetic.specs.AtLeast.{AtLeast}
 use Rattle.arithmetic.proofs.Cases.{or-left, Is, is, holds, fails, not-holds}
-use Rattle.arithmetic.proofs.Maximum.{at-least-self, at-least-through, max-left, lt-right-number, none-below-nan, none-below-minus-infinity, negative-not-above}
+use Rattle.arithmetic.proofs.Maximum.{at-least-self, at-least-through, max-left, lt-right-number, none-below-nan, none-below-minus-infinity, negative-not-above, not-less-of-le}
 use Rattle.arithmetic.proofs.Products.{Positive, Unsigned, positive-times, above-negative}
 use Rattle.arithmetic.proofs.Difference.{neg-add-not-negative}
 use Rattle.matrix.specs.Matrix.{at}
 use Rattle.methods.specs.Factor.{tolerances}
 use Rattle.methods.specs.Statements.{largerMagnitude, foldDiagonal, diagonalMax}
-use Rattle.methods.specs.Se.{aiiMax, aiiMin, leavesBefore, leavesAfter, tmpOf, foldNext}
+use Rattle.methods.specs.Se.{aiiMax, aiiMin, leavesBefore, leastAmount}
 use Rattle.methods.specs.declared.schnabel_eskow.Tolerances.{Tolerances}
 use Rattle.methods.specs.declared.schnabel_eskow.Variant.{Variant}
 use Rattle.methods.specs.declared.schnabel_eskow.Variant.the-variants.{Se90, Se99}
+use Rattle.methods.proofs.PhaseOne.{se90-leaves-last, se99-stays-last}
+use Rattle.methods.proofs.SeRuns.{Leaves}
 
 -- what the amounts need of the tolerances
 pub record PositiveTolerances (t : Tolerances) : Type 0 where
+  pub tau : Positive (t .tau)
   pub tau-bar : Positive (t .«tau_bar»)
   pub mu : Positive (t .mu)
 
 pub tolerances-positive : PositiveTolerances tolerances
 unfolding lt ofBits
-tolerances-positive = record { tau-bar = record { is-finite = refl; above-zero = refl }; mu = record { is-finite = refl; above-zero = refl } }
+tolerances-positive = record { tau = record { is-finite = refl; above-zero = refl }; tau-bar = record { is-finite = refl; above-zero = refl }; mu = record { is-finite = refl; above-zero = refl } }
 
 -- ---- gamma is a number without a sign
 zero-unsigned : Unsigned plus-zero
@@ -68,10 +74,12 @@ module _ (n : ℕ) (l : List Float) (some : 0 < n) where
   unfolding aiiMin
   min-of-one = range-one (n - 1) n (λ i acc. cond (lt (at n l i i) acc) (at n l i i) acc) (inf false) (omega arith)
 
-abbrev pub oneAmount : Tolerances → Float → Float → Float
-oneAmount t gamma x = neg x ⊕ max (t .«tau_bar» ⊗ gamma) (t .tau ⊗ neg x ⊘ (one ⊖ t .tau))
+-- ---- where phase one is left at n - 1, the last row is not above what is at least the least amount
+-- y is not negative, and x not above zero
+zero-between : (y x : Float) → lt y plus-zero ≡ false → lt plus-zero x ≡ false → lt y x ≡ false
+zero-between y x p q = not-holds (lt y x) (λ k. false≢true (sym q ∙ lt-cotransitive y plus-zero x (zero-unsigned .number) k p))
 
--- g is tau_bar * gamma. Where x is not negative only the first test can pass; where it is, no test is needed.
+-- SE99, g its least amount: where x is not negative only the first test can pass; where it is, no test is needed
 alone-not-less : (mu g x y : Float) → Positive mu → AtLeast plus-zero g → AtLeast g y → (lt (aloneMax x) g || lt (aloneMin x) (neg mu ⊗ aloneMax x)) ≡ true → lt y x ≡ false
 unfolding lt
 alone-not-less mu g nan y P p q h = none-below-nan y
@@ -80,28 +88,30 @@ alone-not-less mu g (inf false) y P p q h = absurd (false≢true (sym (ap₂ _||
 alone-not-less mu g (fin false m e) y P p q h =
     let x = fin false m e in
     not-holds (lt y x) (λ k. false≢true (sym (q .not-less) ∙ lt-transitive y x g k (or-left (lt x g) _ (above-negative mu P m e) h)))
-alone-not-less mu g (fin true m e) y P p q h =
-    not-holds (lt y (fin true m e)) (λ k. false≢true (sym (negative-not-above m e) ∙ lt-cotransitive y plus-zero (fin true m e) (zero-unsigned .number) k (at-least-through plus-zero g y p q)))
+alone-not-less mu g (fin true m e) y P p q h = zero-between y (fin true m e) (at-least-through plus-zero g y p q) (negative-not-above m e)
 
--- the amount of the last row, where phase one is left there
-pub one-not-negative : (t : Tolerances) → PositiveTolerances t → (n : ℕ) (a l : List Float) → 0 < n → leavesBefore Se99 t (diagonalMax n a) n (n - 1) l ≡ true
-    → lt (oneAmount t (diagonalMax n a) (at n l (n - 1) (n - 1))) plus-zero ≡ false
-unfolding leavesBefore
-one-not-negative t P n a l some h =
-    let gamma = diagonalMax n a in
-    let x = at n l (n - 1) (n - 1) in
-    let g = t .«tau_bar» ⊗ gamma in
-    let other = t .tau ⊗ neg x ⊘ (one ⊖ t .tau) in
-    let large : AtLeast plus-zero g = positive-times (t .«tau_bar») gamma (P .tau-bar) (gamma-unsigned n a) in
-    neg-add-not-negative x (max g other) (alone-not-less (t .mu) g x (max g other) (P .mu) large
-    (max-left g g other (at-least-self g (large .number))) (rw (max-of-one n l some, min-of-one n l some) at h))
+module _ (t : Tolerances) (P : PositiveTolerances t) (n : ℕ) (a l : List Float) (some : 0 < n) where
+  abbrev gamma : Float
+  gamma = diagonalMax n a
 
--- ---- SE90's and SE99's second test at n - 1: no value is left to search, so tmp is infinite and the test fails
-tmp-infinite : (n : ℕ) (l : List Float) → tmpOf n (n - 1) l ≡ inf false
-unfolding tmpOf
-tmp-infinite n l = range-none (n - 1 + 1) n (foldNext n (n - 1) l) (inf false) (omega arith)
+  abbrev last : Float
+  last = at n l (n - 1) (n - 1)
 
-pub last-stays : (v : Variant) (t : Tolerances) (gamma : Float) (n : ℕ) (l : List Float) → leavesAfter v t gamma n (n - 1) l ≡ false
-unfolding leavesAfter
-last-stays Se90 t gamma n l = rw (tmp-infinite n l) (none-above-infinity (t .tau ⊗ gamma))
-last-stays Se99 t gamma n l = rw (tmp-infinite n l) (none-above-infinity (neg (t .mu) ⊗ gamma))
+  least-not-negative : (v : Variant) → AtLeast plus-zero (leastAmount v t gamma)
+  unfolding leastAmount
+  least-not-negative Se90 = positive-times (t .tau) gamma (P .tau) (gamma-unsigned n a)
+  least-not-negative Se99 = positive-times (t .«tau_bar») gamma (P .tau-bar) (gamma-unsigned n a)
+
+  last-not-above : (v : Variant) (y : Float) → Leaves v t gamma n (n - 1) l → AtLeast (leastAmount v t gamma) y → lt y last ≡ false
+  unfolding leavesBefore leastAmount
+  last-not-above Se90 y (inl e) q = absurd (false≢true e)
+  last-not-above Se90 y (inr e) q = zero-between y last (at-least-through plus-zero (t .tau ⊗ gamma) y (least-not-negative Se90) q)
+      (not-less-of-le last plus-zero (subst T (sym (sym (se90-leaves-last t gamma n (n - 1) l (omega arith)) ∙ e)) tt))
+  last-not-above Se99 y (inl e) q = alone-not-less (t .mu) (t .«tau_bar» ⊗ gamma) last y (P .mu) (least-not-negative Se99) q (rw (max-of-one n l some, min-of-one n l some) at e)
+  last-not-above Se99 y (inr e) q = absurd (false≢true (sym (se99-stays-last t gamma n (n - 1) l (omega arith)) ∙ e))
+
+  -- the amount of the last row
+  pub one-not-negative : (v : Variant) (other : Float) → Leaves v t gamma n (n - 1) l → lt (neg last ⊕ max (leastAmount v t gamma) other) plus-zero ≡ false
+  one-not-negative v other w =
+      let g = leastAmount v t gamma in
+      neg-add-not-negative last (max g other) (last-not-above v (max g other) w (max-left g g other (at-least-self g (least-not-negative v .number))))

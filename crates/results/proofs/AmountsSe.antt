@@ -1,8 +1,7 @@
 -- The amounts of SE90 and SE99: finite and not negative in every state of a run that no step refused.
-use mathlib.Core.Path.{_≡_, refl, sym, _∙_, subst}
-use mathlib.Core.Bool.{true, false, false≢true}
+use mathlib.Core.Path.{_≡_, refl, subst}
+use mathlib.Core.Bool.{true, false}
 use mathlib.Core.List.{List}
-use mathlib.Core.Logic.{inl, inr}
 use Prim.Native.Nat.{ℕ, _-_, _<_}
 use lib.ListN.{set}
 use lib.Ieee.{Float, lt}
@@ -11,12 +10,11 @@ use Rattle.arithmetic.proofs.Maximum.{max-not-negative}
 use Rattle.matrix.specs.Matrix.{at}
 use Rattle.methods.specs.Marks.{mark}
 use Rattle.methods.specs.Statements.{diagonalMax, pivotMatrix, reorder}
-use Rattle.methods.specs.Se.{Run, start, leavesBefore, leavesAfter, pivot, factorize, amount, phaseTwoStepAt, pairOf, oneOf, addPair, addOne, addLast, lastPair, lastOne, begin, run}
+use Rattle.methods.specs.Se.{Run, start, pivot, factorize, amount, phaseTwoStepAt, pairOf, oneOf, addPair, addOne, addLast, lastPair, lastOne, begin, run}
 use Rattle.methods.specs.declared.decomposition.Mark.{Mark}
 use Rattle.methods.specs.declared.decomposition.Mark.the-variants.{Never, Step}
 use Rattle.methods.specs.declared.schnabel_eskow.Tolerances.{Tolerances}
 use Rattle.methods.specs.declared.schnabel_eskow.Variant.{Variant}
-use Rattle.methods.specs.declared.schnabel_eskow.Variant.the-variants.{Se90, Se99}
 use Rattle.methods.specs.declared.schnabel_eskow.Last.{Last}
 use Rattle.methods.specs.declared.schnabel_eskow.Last.the-variants.{One, Pair}
 use Rattle.methods.proofs.SeRuns.{Leaves, KeptInPhaseOne, KeptInPhaseTwo, run-keeps}
@@ -24,16 +22,16 @@ use Rattle.methods.proofs.MarkLaws.{clash}
 use Rattle.results.specs.Results.{Amounts}
 use Rattle.results.proofs.SeTests.{factorize-never, begin-never, normAt, amountAt, step-tested, one-tested, pair-tested}
 use Rattle.results.proofs.AmountsLists.{zeros-amounts, set-amounts, reorder-amounts}
-use Rattle.results.proofs.AmountsLast.{PositiveTolerances, one-not-negative, last-stays}
+use Rattle.results.proofs.AmountsLast.{PositiveTolerances, one-not-negative}
 
 -- what holds of e while the run is not refused
 abbrev Kept : ℕ → Run → Type 0
 Kept n s = s .progress .refused ≡ Never → Amounts n (s .e)
 
--- ---- phase one stores no amount; where it is left at n - 1, the test before the search passed there
+-- ---- phase one stores no amount; where it is left at n - 1, a test passed there
 module _ (v : Variant) (t : Tolerances) (gamma : Float) (n : ℕ) where
   abbrev Left : Mark → List Float → Type 0
-  Left m l = m ≡ Step (n - 1) → leavesBefore v t gamma n (n - 1) l ≡ true
+  Left m l = m ≡ Step (n - 1) → Leaves v t gamma n (n - 1) l
 
   record First (s : Run) : Type 0 where
     amounts : Kept n s
@@ -42,13 +40,8 @@ module _ (v : Variant) (t : Tolerances) (gamma : Float) (n : ℕ) where
   none-left : (m : Mark) (l : List Float) → m ≡ Never → Left m l
   none-left m l e k = clash m (n - 1) e k
 
-  -- the test after the search fails at n - 1
-  before-search : (j : ℕ) (l : List Float) → Leaves v t gamma n j l → j ≡ n - 1 → leavesBefore v t gamma n (n - 1) l ≡ true
-  before-search j l (inl e) q = subst (λ (x : ℕ). leavesBefore v t gamma n x l ≡ true) q e
-  before-search j l (inr e) q = absurd (false≢true (sym (last-stays v t gamma n l) ∙ subst (λ (x : ℕ). leavesAfter v t gamma n x l ≡ true) q e))
-
   left-at : (j : ℕ) (m : Mark) (l : List Float) → m ≡ Never → Leaves v t gamma n j l → Left (mark m true j) l
-  left-at j m l e w k = before-search j l w (let e' : mark m true j ≡ Step j = rw e in cc)
+  left-at j m l e w k = subst (λ (i : ℕ). Leaves v t gamma n i l) (let e' : mark m true j ≡ Step j = rw e in cc) w
 
   kept-one : KeptInPhaseOne v t gamma n First
   unfolding pivot factorize
@@ -96,11 +89,10 @@ unfolding pairOf
 pair-not-negative v t gamma n l delta-prev = max-not-negative _ delta-prev
 
 -- ---- a whole run
-one-not-below : (v : Variant) (t : Tolerances) → PositiveTolerances t → (n : ℕ) (a l : List Float) → 0 < n → leavesBefore v t (diagonalMax n a) n (n - 1) l ≡ true
+one-not-below : (v : Variant) (t : Tolerances) → PositiveTolerances t → (n : ℕ) (a l : List Float) → 0 < n → Leaves v t (diagonalMax n a) n (n - 1) l
     → NotNegative (oneOf v t (diagonalMax n a) (at n l (n - 1) (n - 1)))
-unfolding leavesBefore oneOf
-one-not-below Se90 t P n a l some h = absurd (false≢true h)
-one-not-below Se99 t P n a l some h = one-not-negative t P n a l some h
+unfolding oneOf
+one-not-below v t P n a l some w = one-not-negative t P n a l some v _ w
 
 module _ (v : Variant) (t : Tolerances) (P : PositiveTolerances t) (numbers : List ℕ) (n : ℕ) (a : List Float) (some : 0 < n) where
   kept-two : KeptInPhaseTwo v t (diagonalMax n a) n (First v t (diagonalMax n a) n) (Kept n)

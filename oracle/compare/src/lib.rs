@@ -1,5 +1,5 @@
-//! The port's answers beside those of the listed Rust, where there are contract numbers and in solving of the
-//! second implementation, and of documents 01's and 02's checks, at scale.
+//! The port's answers beside those of the listed Rust, where it can't be asked and in solving of the second
+//! implementation, and of documents 01's and 02's checks, at scale.
 
 mod answer;
 mod broken;
@@ -8,6 +8,7 @@ mod checks;
 mod draw;
 mod factor;
 mod last_block;
+mod left_out;
 mod load_order;
 mod numbered;
 mod numbered_report;

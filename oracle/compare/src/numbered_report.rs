@@ -1,6 +1,7 @@
 //! What a comparison met of matrices with numbers.
 
 use crate::answer::{Answer, NONE};
+use crate::left_out::LeftOut;
 use crate::load_order::Alike;
 use crate::roots::Roots;
 use oracle::numbered::{Numbered, COUNT};
@@ -55,6 +56,7 @@ type Pairs = BTreeMap<(Alike, bool), u64>;
 pub struct NumberedReport {
     rows: [[Row; 49]; NAMES.len()],
     listed: usize,
+    left_out: LeftOut,
     pairs: Pairs,
     refused_pairs: BTreeMap<u8, u64>,
 }
@@ -64,6 +66,7 @@ impl NumberedReport {
         NumberedReport {
             rows: [[Row::default(); 49]; NAMES.len()],
             listed: 0,
+            left_out: LeftOut::default(),
             pairs: BTreeMap::new(),
             refused_pairs: BTreeMap::new(),
         }
@@ -71,6 +74,7 @@ impl NumberedReport {
 
     pub fn run(&mut self, made: &Numbered, judged: &Judged) {
         self.rows[usize::from(made.method) - 1][made.n].add(judged);
+        self.left_out.add(made.n, judged);
     }
 
     /// One of the fixed list was compared.
@@ -92,7 +96,14 @@ impl NumberedReport {
             return Some(format!("{} numbered matrices of {COUNT}", self.listed));
         }
         let missing = self.missing_run().or(self.missing_pair());
-        missing.or_else(|| self.missing_roots())
+        missing
+            .or_else(|| self.missing_roots())
+            .or_else(|| self.missing_pivot())
+    }
+
+    fn missing_pivot(&self) -> Option<String> {
+        let missing = self.left_out.missing();
+        missing.map(|words| format!("{words}, numbered"))
     }
 
     fn missing_run(&self) -> Option<String> {
@@ -158,6 +169,7 @@ fn is_missing(method: u8, n: usize, row: &Row) -> bool {
 impl fmt::Display for NumberedReport {
     fn fmt(&self, f: &mut fmt::Formatter) -> fmt::Result {
         self.runs(f)?;
+        writeln!(f, "numbered, {}", self.left_out)?;
         let both = |alike| [true, false].map(|tied| self.pairs_with(alike, tied));
         let [tied, untied] = both(Alike::Complete);
         let [tied_in_two, untied_in_two] = both(Alike::PhaseTwo);

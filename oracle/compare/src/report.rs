@@ -1,6 +1,7 @@
 //! What a comparison met, and how often it differed.
 
 use crate::calls::Called;
+use crate::left_out::LeftOut;
 use crate::load_order::Alike;
 use crate::numbered_report::NumberedReport;
 use crate::roots::Roots;
@@ -45,6 +46,7 @@ pub struct Report {
     small_comparisons: usize,
     calls: BTreeMap<&'static str, BTreeMap<usize, u64>>,
     pairs: BTreeMap<Alike, u64>,
+    pub left_out: LeftOut,
     pub numbered: NumberedReport,
     pub solve: SolveReport,
     /// Where the first was, and how many.
@@ -63,6 +65,7 @@ impl Report {
             small_comparisons: 0,
             calls: BTreeMap::new(),
             pairs: BTreeMap::new(),
+            left_out: LeftOut::default(),
             numbered: NumberedReport::new(),
             solve: SolveReport::default(),
             differences: None,
@@ -117,10 +120,11 @@ impl Report {
 
     /// What wasn't compared and should have been.
     fn missing(&self) -> Option<String> {
-        match self.small_comparisons == SMALL_DUE {
-            true => self.numbered.missing().or_else(|| self.solve.missing()),
-            false => Some("every small broken record".into()),
+        if self.small_comparisons != SMALL_DUE {
+            return Some("every small broken record".into());
         }
+        let missing = self.left_out.missing().or_else(|| self.numbered.missing());
+        missing.or_else(|| self.solve.missing())
     }
 
     pub fn has_enough(&self) -> bool {
@@ -211,6 +215,7 @@ fn by_kind(counts: &BTreeMap<Kind, u64>) -> String {
 impl fmt::Display for Report {
     fn fmt(&self, f: &mut fmt::Formatter) -> fmt::Result {
         self.runs(f)?;
+        writeln!(f, "left out, {}", self.left_out)?;
         self.pairs(f)?;
         write!(f, "{}{}", self.numbered, self.solve)?;
         writeln!(
@@ -250,7 +255,7 @@ mod tests {
         let words = report.to_string();
         assert!(words.contains("\nnot compared: every small broken record\n"));
         let numbered = report.numbered.missing().unwrap();
-        assert_eq!(numbered, "0 numbered matrices of 1512");
+        assert_eq!(numbered, "0 numbered matrices of 1728");
         let solve = report.solve.missing().unwrap();
         assert_eq!(solve, "0 systems of 76551");
     }

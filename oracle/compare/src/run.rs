@@ -5,13 +5,13 @@ use crate::factor::{self, Operands};
 use crate::report::Report;
 use crate::{answer, broken, calls, draw, last_block, load_order, numbered, records, small, solve};
 use oracle::generate::rng::Rng;
-use oracle::generate::Case;
+use oracle::generate::{pivot_list, Case};
 use oracle::numbered::list;
 use oracle::record::{matrix_record, replied, reply, Reply};
-use oracle::second;
+use oracle::second::judged;
 use oracle::systems;
 use oracle::table::NAMES;
-use oracle::{SE90, SE99};
+use oracle::{Answer, SE90, SE99};
 use std::ops::Range;
 use std::panic::catch_unwind;
 
@@ -23,10 +23,24 @@ pub fn compare(seed: u64, indexes: Range<u64>) -> Report {
             return report;
         }
     }
+    pivots(&mut report);
     numbered_list(&mut report);
     systems_list(&mut report);
     small_records(&mut report);
     report
+}
+
+/// SE90 of every n with a pivot at or below zero.
+fn pivots(report: &mut Report) {
+    for (number, case) in pivot_list().iter().enumerate() {
+        if report.has_enough() {
+            return;
+        }
+        let found = factorization(case, &mut Rng::new(0, number as u64), report);
+        let at = format!("pivot {number}");
+        let said = |words: String| format!("{at}, n {}: {words}", case.n);
+        told(&at, found.into_iter().map(said).collect(), report);
+    }
 }
 
 /// Matrices with numbers of every sort, method and n.
@@ -112,7 +126,9 @@ fn factorization(case: &Case, rng: &mut Rng, report: &mut Report) -> Vec<String>
         None => found.push("the oracle panicked".to_string()),
         Some(reply) => {
             report.run(case, &reply);
-            found.extend(second_implementation(case, &reply));
+            let second = judged(case.method, case.n, &case.matrix, None);
+            report.left_out.add(case.n, &second);
+            found.extend(second_implementation(case, second.answer, &reply));
             found.extend(noted(records::calls(&record, &reply, rng), report));
             found.extend(noted(
                 factor::accepted(&Operands::of_case(case), &reply),
@@ -132,9 +148,8 @@ fn factorization(case: &Case, rng: &mut Rng, report: &mut Report) -> Vec<String>
     found
 }
 
-/// Where it differs from the Rust, without numbers.
-fn second_implementation(case: &Case, reply: &Reply) -> Option<String> {
-    let second = second::factor(case.method, case.n, &case.matrix, None);
+/// Where it differs from the Rust, if the Rust could be asked.
+fn second_implementation(case: &Case, second: Answer, reply: &Reply) -> Option<String> {
     let second = replied((case.method, case.n as u8), second);
     let difference = answer::difference(&second.record(), &reply.record());
     difference.map(|words| format!("second implementation for the port: {words}"))

@@ -8,8 +8,8 @@
 //! by rows. Entries are the 16 hexadecimal digits of a double's bits. After a refusal p, e and L are its
 //! fillings. A table of what occurred goes to standard error.
 //!
-//! `cases COUNT MAXN SEED numbered` prints matrices with ties and contract numbers, count of them, and the
-//! second implementation's answers.
+//! `cases COUNT MAXN SEED numbered` prints matrices with ties and contract numbers, count of them. The answers are the
+//! Rust's or, with numbers and where SE90 meets a pivot at or below zero, the second implementation's.
 //!
 //! `cases COUNT MAXN SEED solve` prints systems to solve and the second implementation's answers:
 //!
@@ -24,7 +24,7 @@ use oracle::record::{bytes, doubles};
 use oracle::second::solve::{solve, System};
 use oracle::systems::{changed, drawn};
 use oracle::table::{report, Run};
-use oracle::{factor, second, Answer, COMPLETE, GMW81};
+use oracle::{answer, Answer, COMPLETE, GMW81};
 use std::fmt::Display;
 use std::io::{self, BufWriter, Write};
 use std::process::ExitCode;
@@ -57,7 +57,7 @@ type Answered = (Numbered, Answer);
 
 fn plain(count: usize, max_n: usize, seed: u64) -> Vec<Answered> {
     let answered = cases(count, max_n, seed).map(|case| {
-        let answer = factor(case.method, case.n, &case.matrix);
+        let answer = answer(case.method, case.n, &case.matrix, None);
         let made = Numbered {
             method: case.method,
             n: case.n,
@@ -76,7 +76,7 @@ fn with_numbers(count: usize, max_n: usize, seed: u64) -> Vec<Answered> {
         let (method, sort) = (GMW81 + (index % 3) as u8, TYING[index / 3 % TYING.len()]);
         let n = 1 + rng.below(max_n);
         let made = Numbered::new(sort, method, n, &mut rng);
-        let answer = second::factor(method, n, &made.matrix, Some(&made.numbers));
+        let answer = answer(method, n, &made.matrix, Some(&made.numbers));
         (made, answer)
     });
     answered.collect()

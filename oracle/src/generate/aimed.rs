@@ -1,27 +1,30 @@
 //! Kinds that aim at a step. Candidates are built in pivot order and run until one gets there.
 
-use super::plain;
 use super::rng::Rng;
 use super::symmetric::Symmetric;
-use crate::{factor, Answer, GMW81, NOT_FINITE, SE90, SE99};
+use super::{pivots, plain};
+use crate::{answer, Answer, GMW81, NOT_FINITE, SE90};
 
 const TRIES: usize = 16;
 
-/// The first candidate whose answer is as wanted, else the last one tried.
-fn aim(
-    method: u8,
+/// The first candidate that is as wanted, else the last one tried.
+pub fn aim(
     rng: &mut Rng,
     candidate: impl Fn(&mut Rng) -> Symmetric,
-    wanted: impl Fn(&Answer) -> bool,
+    wanted: impl Fn(&Symmetric) -> bool,
 ) -> Symmetric {
     let mut made = candidate(rng);
     for _ in 1..TRIES {
-        if wanted(&factor(method, made.rows(), made.entries())) {
+        if wanted(&made) {
             break;
         }
         made = candidate(rng);
     }
     made
+}
+
+fn answered(method: u8, made: &Symmetric) -> Answer {
+    answer(method, made.rows(), made.entries(), None)
 }
 
 /// Two rows whose diagonals would differ at `step` without rounding. That takes a step before it and
@@ -32,7 +35,9 @@ pub fn tied_by_rounding(method: u8, n: usize, step: usize, rng: &mut Rng) -> Sym
     }
     let step = step.clamp(1, n - 2);
     let candidate = |rng: &mut Rng| rounded_tie(n, step, rng);
-    aim(method, rng, candidate, |answer| answer.tied == Some(step))
+    aim(rng, candidate, |made| {
+        answered(method, made).tied == Some(step)
+    })
 }
 
 /// Rows `step` and `step + 1` meet the pivots before only through one entry: either one too small
@@ -62,13 +67,16 @@ fn rounded_tie(n: usize, step: usize, rng: &mut Rng) -> Symmetric {
 }
 
 pub fn phase_two_at(method: u8, n: usize, step: usize, rng: &mut Rng) -> Symmetric {
+    if method == SE90 && step + 1 == n {
+        return pivots::not_positive(n, step, rng);
+    }
     let candidate = |rng: &mut Rng| leaving(method, n, step, rng);
-    aim(method, rng, candidate, |answer| {
-        answer.phase_two == Some(step)
+    aim(rng, candidate, |made| {
+        answered(method, made).phase_two == Some(step)
     })
 }
 
-/// SE90's test sees the diagonal one step ahead. SE99's first test sees the present one, its second
+/// SE90's test of tmp sees the diagonal one step ahead. SE99's first test sees the present one, its second
 /// one step ahead.
 fn leaving(method: u8, n: usize, step: usize, rng: &mut Rng) -> Symmetric {
     let ahead = step + 1 < n && (method == SE90 || rng.coin());
@@ -111,12 +119,14 @@ fn column(n: usize, s: usize, steps: usize, rng: &mut Rng) -> Vec<f64> {
     (0..n).map(entry).collect()
 }
 
-type Candidate = fn(usize, usize, &mut Rng) -> Symmetric;
+/// Of n and a step.
+pub type Candidate = fn(usize, usize, &mut Rng) -> Symmetric;
 
 fn refused_by(ways: &[Candidate], method: u8, n: usize, step: usize, rng: &mut Rng) -> Symmetric {
     let way = rng.pick(ways);
     let candidate = |rng: &mut Rng| way(n, step, rng);
-    aim(method, rng, candidate, |answer| {
+    aim(rng, candidate, |made| {
+        let answer = answered(method, made);
         (answer.refusal, answer.step) == (NOT_FINITE, step)
     })
 }
@@ -124,7 +134,7 @@ fn refused_by(ways: &[Candidate], method: u8, n: usize, step: usize, rng: &mut R
 pub fn refused_at(method: u8, n: usize, step: usize, rng: &mut Rng) -> Symmetric {
     let ways = ways_to_refuse(method, n, step);
     if ways.is_empty() {
-        // SE99 has none at a last step but the first.
+        // SE90 and SE99 have none at a last step but the first.
         return refused_at(method, n, step - 1, rng);
     }
     refused_by(&ways, method, n, step, rng)
@@ -132,10 +142,10 @@ pub fn refused_at(method: u8, n: usize, step: usize, rng: &mut Rng) -> Symmetric
 
 fn ways_to_refuse(method: u8, n: usize, step: usize) -> Vec<Candidate> {
     let left = n - step;
-    let ways: [(bool, Candidate); 10] = [
+    let ways: [(bool, Candidate); 8] = [
         (method == GMW81, amount_overflows),
         (method == GMW81 && left > 1, square_overflows),
-        (method != GMW81 && left > 1, zero_pivot),
+        (method != GMW81 && left > 1, pivots::zeros_left),
         (
             method != GMW81 && left > 2 && step > 0,
             zero_row_in_phase_two,
@@ -143,9 +153,7 @@ fn ways_to_refuse(method: u8, n: usize, step: usize) -> Vec<Candidate> {
         (method != GMW81 && left > 2, circles_overflow),
         (method != GMW81 && left == 2, eigenvalues_overflow),
         (method != GMW81 && left == 2, eigenvalue_root_below_zero),
-        (method == SE90 && left == 1 && n > 1, squares_underflow),
-        (method == SE90 && step == 0, negative_pivot),
-        (method == SE99 && n == 1, last_amount_overflows),
+        (method != GMW81 && n == 1, last_amount_overflows),
     ];
     ways.iter()
         .filter(|(can, _)| *can)
@@ -193,16 +201,6 @@ fn square_overflows(n: usize, step: usize, rng: &mut Rng) -> Symmetric {
     })
 }
 
-/// Phase one: positive pivots so small that tau times the largest is zero, then zeros.
-fn zero_pivot(n: usize, step: usize, rng: &mut Rng) -> Symmetric {
-    let unit = f64::from_bits(1);
-    Symmetric::new(n, |i, j| match i == j {
-        true if i < step => (2 * n - i) as f64 * unit,
-        false if i < step && rng.below(n) == 0 => unit,
-        _ => rng.zero(),
-    })
-}
-
 /// Phase two begins at once. A row of zeros comes after the positive ones, before the negative ones.
 fn zero_row_in_phase_two(n: usize, step: usize, rng: &mut Rng) -> Symmetric {
     let unit = f64::from_bits(1);
@@ -245,27 +243,6 @@ fn eigenvalue_root_below_zero(n: usize, step: usize, rng: &mut Rng) -> Symmetric
         (true, _) => -size,
         (_, true) => 0.0,
         (_, false) => small * size,
-    })
-}
-
-/// SE90: a square too small to be seen by the test makes the last diagonal negative.
-fn squares_underflow(n: usize, _: usize, rng: &mut Rng) -> Symmetric {
-    let scale = 2f64.powi(rng.whole(-700, -600));
-    Symmetric::new(n, |i, j| match i == j {
-        true => scale * ((n - i) as f64 + rng.unit() / 2.0),
-        false if j + 2 == n => scale * rng.either(2.5, 4.0),
-        false => scale * rng.signed(0.01),
-    })
-}
-
-/// SE90: the test of phase one passes a negative pivot whose column is large.
-fn negative_pivot(n: usize, _: usize, rng: &mut Rng) -> Symmetric {
-    Symmetric::new(n, |i, j| {
-        if i == j {
-            -rng.within(0.5, 1.0)
-        } else {
-            rng.either(2.0, 3.0)
-        }
     })
 }
 

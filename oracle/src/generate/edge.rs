@@ -3,13 +3,13 @@
 use super::rng::Rng;
 use super::symmetric::Symmetric;
 use super::{aimed, plain};
-use crate::{factor, GMW81};
+use crate::{answer, GMW81};
 
 /// What is decided: the pivots in GMW81, else the phase-two step.
 type Outcome = (Vec<usize>, Option<usize>);
 
 fn outcome(method: u8, matrix: &Symmetric) -> Outcome {
-    let answer = factor(method, matrix.rows(), matrix.entries());
+    let answer = answer(method, matrix.rows(), matrix.entries(), None);
     match method {
         GMW81 => (answer.p, None),
         _ => (Vec::new(), answer.phase_two),

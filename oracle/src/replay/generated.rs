@@ -31,8 +31,8 @@ fn small() -> impl Iterator<Item = Entry> {
     })
 }
 
-const MIDDLE: [usize; 16] = [
-    13, 32, 15, 25, 20, 14, 36, 17, 30, 18, 16, 22, 24, 27, 21, 19,
+const MIDDLE: [usize; 17] = [
+    13, 32, 15, 25, 20, 14, 36, 17, 30, 18, 16, 22, 24, 27, 21, 19, 23,
 ];
 
 fn middle() -> impl Iterator<Item = Entry> {

@@ -1,7 +1,7 @@
 //! Phase one of SE90 and SE99, to tell which test ends it. The oracle tells only the step.
 
 use crate::generate::symmetric::Symmetric;
-use crate::SE99;
+use crate::{SE90, SE99};
 use modcholesky::standins::CBRT_OF_EPSILON;
 
 /// tau, and SE99's tau_bar.
@@ -10,6 +10,8 @@ const MU: f64 = 0.1;
 
 #[derive(Clone, Copy, Debug, PartialEq)]
 pub enum Test {
+    /// SE90: the pivot, after search and swap, against zero.
+    Pivot,
     /// tmp against tau * gamma in SE90, against -mu * gamma in SE99.
     Tmp,
     /// SE99: aii_max against tau_bar * gamma.
@@ -36,8 +38,8 @@ pub fn phase_one(method: u8, matrix: &Symmetric) -> PhaseOne {
             return ended(order, j, j, test);
         }
         pivot(&mut l, &mut order, j);
-        if least(ahead(&l, j)) < limit {
-            return ended(order, j + 1, j, Test::Tmp);
+        if let Some(test) = after_the_search(method, &l, j, limit) {
+            return ended(order, j + 1, j, test);
         }
         eliminate(&mut l, j);
     }
@@ -61,6 +63,14 @@ fn before_the_search(method: u8, l: &Symmetric, j: usize, gamma: f64) -> Option<
     match method {
         SE99 if aii_max < TAU * gamma => Some(Test::AiiMax),
         SE99 if aii_min < -MU * aii_max => Some(Test::AiiMin),
+        _ => None,
+    }
+}
+
+fn after_the_search(method: u8, l: &Symmetric, j: usize, limit: f64) -> Option<Test> {
+    match method {
+        SE90 if l.get(j, j) <= 0.0 => Some(Test::Pivot),
+        _ if least(ahead(l, j)) < limit => Some(Test::Tmp),
         _ => None,
     }
 }

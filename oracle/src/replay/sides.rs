@@ -26,6 +26,7 @@ pub fn pairs() -> Vec<Pair> {
 
 fn entries(pair: &Pair) -> [Entry; 2] {
     let kind = match (pair.method, pair.test) {
+        (_, Test::Pivot) => "sides of SE90's test of the pivot",
         (SE90, _) => "sides of SE90's test of tmp",
         (_, Test::Tmp) => "sides of SE99's test of tmp",
         (_, Test::AiiMax) => "sides of SE99's test of aii_max",
@@ -34,9 +35,17 @@ fn entries(pair: &Pair) -> [Entry; 2] {
     [0, 1].map(|side| Entry::of(kind, pair.method, pair.matrices[side].entries()))
 }
 
-/// Small ones. But for SE99's tmp, the second matrix meets its bound exactly.
+/// Small ones. But for SE99's tmp and SE90's pivot, the second matrix meets its bound exactly; by SE90's test of the
+/// pivot the first does.
 fn at_equality() -> Vec<Pair> {
-    let given: [(u8, &[f64]); 6] = [
+    let (unit, small) = (f64::from_bits(1), 2f64.powi(-650));
+    let given: [(u8, &[f64]); 9] = [
+        (SE90, &[unit]),
+        (SE90, &[unit, 0.0, 0.0, unit]),
+        (
+            SE90,
+            &[4.0 * small, 2.0 * small, 2.0 * small, small.next_up()],
+        ),
         (SE90, &[1.0, 0.0, 0.0, TAU]),
         (SE90, &[4.0, 0.0, 0.0, 0.0, 1.0, 0.0, 0.0, 0.0, 4.0 * TAU]),
         (SE99, &[1.0, 0.0, 0.0, TAU]),

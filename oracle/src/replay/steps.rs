@@ -37,9 +37,9 @@ fn steps(method: u8, n: usize) -> BTreeSet<usize> {
     all.into_iter().collect()
 }
 
-/// SE99 is refused at step n - 1 only if n is 1.
+/// SE90 and SE99 are refused at step n - 1 only if n is 1.
 fn last_step(method: u8, n: usize) -> usize {
-    if method == SE99 && n > 1 {
+    if method != GMW81 && n > 1 {
         n - 2
     } else {
         n - 1

@@ -4,7 +4,7 @@ use super::Entry;
 use crate::generate::edge::border;
 use crate::generate::rng::Rng;
 use crate::generate::symmetric::Symmetric;
-use crate::{factor, GMW81, SE99};
+use crate::{answer, GMW81, SE99};
 
 pub const KIND: &str = "tied by rounding, no zeros";
 
@@ -33,11 +33,11 @@ fn try_seed(method: u8, n: usize, step: usize, rng: &mut Rng) -> Option<Symmetri
     let made = falling(n, step, rng).reloaded(&order);
     let row = order.iter().position(|&i| i == step + 1)?;
     let rival = order.iter().position(|&i| i == step)?;
-    let answer = |entry: f64| factor(method, n, made.with(row, row, entry).entries());
-    let (low, high) = border(1.3, 1.9, |entry| answer(entry).p[step] == rival);
+    let found = |entry: f64| answer(method, n, made.with(row, row, entry).entries(), None);
+    let (low, high) = border(1.3, 1.9, |entry| found(entry).p[step] == rival);
     [low, high]
         .into_iter()
-        .find(|&entry| answer(entry).tied == Some(step))
+        .find(|&entry| found(entry).tied == Some(step))
         .map(|entry| made.with(row, row, entry))
 }
 

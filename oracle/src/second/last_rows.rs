@@ -4,11 +4,11 @@ use super::run::{stored, NotFinite, Run};
 use super::words::{max, square, TAU, TAU_BAR};
 use crate::SE90;
 
-/// SE99 entering phase two at step n - 1.
-pub fn one(run: &mut Run, gamma: f64) -> Result<(), NotFinite> {
+/// Phase two begins at step n - 1, with this share of gamma.
+pub fn one(run: &mut Run, share: f64, gamma: f64) -> Result<(), NotFinite> {
     let j = run.n - 1;
     let last = run.l[(j, j)];
-    run.e[j] = stored(-last + max(TAU_BAR * gamma, TAU * -last / (1.0 - TAU)))?;
+    run.e[j] = stored(-last + max(share * gamma, TAU * -last / (1.0 - TAU)))?;
     run.l[(j, j)] = stored(last + run.e[j])?;
     run.l[(j, j)] = run.root(run.l[(j, j)])?;
     Ok(())

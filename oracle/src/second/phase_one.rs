@@ -2,7 +2,7 @@ use super::elimination::eliminate;
 use super::run::{NotFinite, Run};
 use super::words::{largest, least, square, MU, TAU_BAR};
 use super::Variant;
-use crate::SE99;
+use crate::{SE90, SE99};
 
 /// The step at which phase one ends, if it does.
 pub fn end(run: &mut Run, v: Variant, gamma: f64) -> Result<Option<usize>, NotFinite> {
@@ -25,7 +25,14 @@ fn ends(run: &mut Run, v: Variant, gamma: f64, j: usize) -> bool {
     let diagonal: Vec<f64> = (0..run.n).map(|i| run.l[(i, i)]).collect();
     let pivot = run.pick(j, |i| diagonal[i]);
     run.exchange(j, pivot);
-    ahead(run, j) < v.ahead * gamma
+    (v.method == SE90 && pivot_ends(run, j)) || ahead(run, j) < v.ahead * gamma
+}
+
+/// Whether the pivot is a zero of either sign, or negative.
+fn pivot_ends(run: &mut Run, j: usize) -> bool {
+    let met = run.l[(j, j)] <= 0.0;
+    run.not_positive = met.then_some(j);
+    met
 }
 
 fn diagonal_ends(run: &Run, gamma: f64, j: usize) -> bool {

@@ -7,7 +7,7 @@ use super::Variant;
 /// From step k, where it begins.
 pub fn from(run: &mut Run, v: Variant, gamma: f64, k: usize) -> Result<(), NotFinite> {
     if k + 1 == run.n {
-        return last_rows::one(run, gamma);
+        return last_rows::one(run, v.share, gamma);
     }
     let mut g = bounds(run, k)?;
     let mut delta_prev = 0.0;

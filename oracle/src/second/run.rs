@@ -31,6 +31,8 @@ pub struct Ties {
 pub struct Judged {
     pub answer: Answer,
     pub ties: Ties,
+    /// The step at which SE90's phase one met a pivot at or below zero.
+    pub not_positive: Option<usize>,
 }
 
 pub struct Run<'a> {
@@ -41,6 +43,7 @@ pub struct Run<'a> {
     pub step: usize,
     pub tied: Option<usize>,
     pub phase_two: Option<usize>,
+    pub not_positive: Option<usize>,
     /// Of the roots taken on the diagonal so far, those that rounding changed.
     pub inexact: usize,
     pub ties: Ties,
@@ -58,6 +61,7 @@ impl<'a> Run<'a> {
             step: 0,
             tied: None,
             phase_two: None,
+            not_positive: None,
             inexact: 0,
             ties: Ties::default(),
             numbers,

@@ -1,5 +1,6 @@
-//! What is seen of a run: its tied step, its phase-two step, the first step that stored a value that
-//! isn't finite, and how many roots on its diagonal rounding changed. One run at a time on each thread.
+//! What is seen of a run: its tied step, its phase-two step, the first step of SE90's phase one whose pivot isn't
+//! positive, the first step that stored a value that isn't finite, and how many roots on its diagonal rounding
+//! changed. One run at a time on each thread.
 
 mod root;
 
@@ -15,6 +16,8 @@ pub const ON: bool = !cfg!(feature = "unwatched");
 pub struct Marks {
     pub tied: Option<usize>,
     pub phase_two: Option<usize>,
+    /// The first step of SE90's phase one whose pivot, after search and swap, is at or below zero.
+    pub not_positive: Option<usize>,
     pub refused: Option<usize>,
     /// 0 in a refused run.
     pub inexact: usize,
@@ -23,6 +26,7 @@ pub struct Marks {
 const NONE: Marks = Marks {
     tied: None,
     phase_two: None,
+    not_positive: None,
     refused: None,
     inexact: 0,
 };
@@ -68,6 +72,16 @@ pub fn search(places: usize) {
     });
 }
 
+/// The pivot of SE90's phase one is `x`, after search and swap.
+pub fn pivot(x: f64) {
+    let step = current_step();
+    update(|marks| {
+        if x <= 0.0 {
+            marks.not_positive.get_or_insert(step);
+        }
+    });
+}
+
 /// Phase one ends at step `j`.
 pub fn phase_two(j: usize) {
     update(|marks| {
@@ -98,8 +112,8 @@ pub fn stored<A: Any>(step: usize, value: &A) {
     }
 }
 
-/// The run's marks. Within a step its search and its end of phase one come before its first store,
-/// so what was found up to a refused step is what was found at steps not above it.
+/// The run's marks. Within a step its search, its pivot and its end of phase one come before its first
+/// store, so what was found up to a refused step is what was found at steps not above it.
 pub fn end() -> Marks {
     let marks = MARKS.get();
     let last = marks.refused.unwrap_or(usize::MAX);
@@ -107,6 +121,7 @@ pub fn end() -> Marks {
     Marks {
         tied: upto(marks.tied),
         phase_two: upto(marks.phase_two),
+        not_positive: upto(marks.not_positive),
         refused: marks.refused,
         inexact: match marks.refused {
             None => marks.inexact,
@@ -125,15 +140,15 @@ mod tests {
         step(1);
         search(2);
         step(3);
+        pivot(0.0);
         phase_two(3);
         stored(2, &f64::NAN);
         assert_eq!(
             end(),
             Marks {
                 tied: Some(1),
-                phase_two: None,
                 refused: Some(2),
-                inexact: 0
+                ..NONE
             }
         );
     }
@@ -148,12 +163,31 @@ mod tests {
         assert_eq!(
             end(),
             Marks {
-                tied: None,
                 phase_two: Some(2),
-                refused: None,
-                inexact: 0
+                ..NONE
             }
         );
+    }
+
+    #[test]
+    fn the_first_pivot_at_or_below_zero_counts() {
+        let met = |pivots: &[f64]| {
+            begin();
+            for (j, &x) in pivots.iter().enumerate() {
+                step(j);
+                pivot(x);
+            }
+            end().not_positive
+        };
+        assert_eq!(met(&[1.0, f64::from_bits(1), f64::NAN]), None);
+        assert_eq!(met(&[1.0, 0.0, -1.0]), Some(1));
+        assert_eq!(met(&[-0.0, 1.0]), Some(0));
+        assert_eq!(met(&[2.0, 1.0, -f64::from_bits(1)]), Some(2));
+        // Its search comes before the stores of the same step.
+        stored(2, &f64::NAN);
+        assert_eq!(end().not_positive, Some(2));
+        stored(1, &f64::NAN);
+        assert_eq!(end().not_positive, None);
     }
 
     #[test]
