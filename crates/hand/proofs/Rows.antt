@@ -1,7 +1,7 @@
 -- The fourteen hand calculations, by computation of the definitions; and the cases outside the table.
 use mathlib.Core.Path.{_≡_, refl}
 use mathlib.Core.List.{[], _∷_}
-use lib.Ieee.{add, sub, mul, div, lt, le, eq, neg, isNan, ofBits}
+use lib.Ieee.{add, sub, mul, div, lt, eq, neg, isNan, ofBits}
 use Rattle.arithmetic.specs.First.{firstFrom}
 use Rattle.arithmetic.specs.Outcome.{_then_}
 use Rattle.arithmetic.specs.Sqrt.{sqrt-call}
@@ -19,7 +19,7 @@ use Rattle.methods.specs.declared.schnabel_eskow.Variant.the-variants.{Se90, Se
 use Rattle.hand.specs.Hand.{4·, minus, All, rows, pivotsAtOrBelowZero, RootsCounted, OrdersOf}
 
 pub hand-calculations : All rows
-unfolding factor add sub mul div lt le eq neg isNan ofBits firstFrom sqrt-call eigenvalues-2x2-call search-checks largest circle-checks setEach firstOverflow _then_ eigenvaluesOf oneIf
+unfolding factor add sub mul div lt eq neg isNan ofBits firstFrom sqrt-call eigenvalues-2x2-call search-checks largest circle-checks setEach firstOverflow _then_ eigenvaluesOf oneIf
 hand-calculations = (refl, (refl, (refl, (refl, (refl, (refl, (refl, (refl, (refl, (refl, (refl, (refl, ((refl, refl), (refl, tt))))))))))))))
 
 -- ---- outside the table
@@ -38,7 +38,7 @@ se99-enters = refl
 
 -- ---- SE90's pivots at or below zero
 pub pivots-at-or-below-zero : All pivotsAtOrBelowZero
-unfolding factor add sub mul div lt le eq neg isNan ofBits eigenvaluesOf oneIf
+unfolding factor add sub mul div lt eq neg isNan ofBits oneIf
 pivots-at-or-below-zero = (refl, (refl, (refl, (refl, (refl, (refl, tt))))))
 
 -- ---- which roots count

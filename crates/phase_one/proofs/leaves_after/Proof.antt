@@ -1,37 +1,18 @@
--- `leaves_after` meets its contract.
+-- The tests after search and swap.
 use borrow.Author.Needs.{needs}
-use mathlib.Core.Path.{_≡_}
-use mathlib.Core.Bool.{true, false}
-use mathlib.Core.List.{List}
-use Prim.Native.Nat.{ℕ}
-use lib.Ieee.{Float, lt, le}
-use Rattle.arithmetic.specs.Double.{plus-zero, _⊗_}
-use Rattle.matrix.specs.Matrix.{at}
-use Rattle.methods.specs.Se.{tmpOf, leavesAfter}
-use Rattle.methods.specs.declared.schnabel_eskow.Tolerances.{Tolerances}
-use Rattle.methods.specs.declared.schnabel_eskow.Variant.{Variant}
-use Rattle.methods.specs.declared.schnabel_eskow.Variant.the-variants.{Se90}
+use Rattle.methods.specs.Se.{leavesAfter}
 use Rattle.phase_one.proofs.leaves_after.Statement.{statement}
 use Rattle.phase_one.proofs.leaves_after.Tie as tie
 
-module _ (v : Variant) (t : Tolerances) (gamma : Float) (n j : ℕ) (l : List Float) (pivot : Float) (se90 : v ≡ Se90) (e : pivot ≡ at n l j j) where
-  ends : le pivot plus-zero ≡ true → true ≡ leavesAfter v t gamma n j l
-  unfolding leavesAfter
-  ends h =
-      let k : le (at n l j j) plus-zero ≡ true = rw e at h in
-      rw (se90, k)
-
-  above : (tmp : Float) → tmp ≡ tmpOf n j l → le pivot plus-zero ≡ false → lt tmp (t .tau ⊗ gamma) ≡ leavesAfter v t gamma n j l
-  unfolding leavesAfter
-  above tmp m h =
-      let k : le (at n l j j) plus-zero ≡ false = rw e at h in
-      rw (se90, m, k)
-
 returns : tie.Need-returns
-returns c = ends _ _ _ _ _ _ _ (c .before .before .enum-told .given .1) (c .before .get .ensures) (c .if1 .taken)
+unfolding leavesAfter
+returns c = rw (c .before .before .enum-told .given .1, ← c .before .get .ensures, c .if1 .taken)
 
 returns-2 : tie.Need-returns-2
-returns-2 c = above _ _ _ _ _ _ _ (c .before .before .before .before .enum-told .given .1) (c .before .before .before .get .ensures) _ (c .before .tmp-of .ensures) (c .before .before .if1 .left)
+unfolding leavesAfter
+returns-2 c =
+    let b = c .before .before .before in
+    rw (b .before .enum-told .given .1, ← b .get .ensures, c .before .before .if1 .left, c .before .tmp-of .ensures)
 
 returns-3 : tie.Need-returns-3
 unfolding leavesAfter
