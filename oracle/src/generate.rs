@@ -110,17 +110,14 @@ fn case(index: usize, max_n: usize, seed: u64) -> Case {
 pub fn pivot_list() -> Vec<Case> {
     let steps = |n: usize| BTreeSet::from([0, n / 2, n - 1]);
     let aims = (1..=48).flat_map(|n| steps(n).into_iter().map(move |step| (n, step)));
-    let case = |(n, step): (usize, usize)| Case {
-        kind: PivotNotPositive,
-        method: SE90,
-        n,
-        matrix: matrix(
-            PivotNotPositive,
-            SE90,
+    let case = |(n, step): (usize, usize)| {
+        let mut rng = Rng::new(n as u64, step as u64);
+        Case {
+            kind: PivotNotPositive,
+            method: SE90,
             n,
-            step,
-            &mut Rng::new(n as u64, step as u64),
-        ),
+            matrix: matrix(PivotNotPositive, SE90, n, step, &mut rng),
+        }
     };
     aims.map(case).collect()
 }

@@ -42,7 +42,7 @@ pub struct Answer {
 
 type Factors = Decomposition<Array2<f64>, Array1<f64>, Array1<usize>>;
 
-/// What the Rust answers, and what was seen of it.
+/// The Rust's answer, and whether documents 01 and 02 ask for it.
 pub struct Watched {
     pub answer: Answer,
     /// The step at which SE90's phase one met a pivot at or below zero. Document 02 ends the phase there.
@@ -57,7 +57,7 @@ impl Watched {
 }
 
 /// What documents 01 and 02 ask for: the Rust's answer or, where it can't be asked, the second implementation's.
-/// It knows neither numbers nor SE90's test of the pivot.
+/// The Rust knows neither numbers nor SE90's test of the pivot.
 pub fn answer(method: u8, n: usize, a: &[f64], numbers: Option<&[u32]>) -> Answer {
     let rust = match numbers {
         None => asked(method, n, a),

@@ -194,14 +194,17 @@ mod tests {
         let met = runs.filter_map(|(_, made)| {
             let found = judged(SE90, made.n, &made.matrix, Some(&made.numbers));
             let step = found.not_positive?;
-            let last = step > 0 && step + 1 == made.n;
-            Some((step > 0, last, found.answer.tied == Some(step)))
+            let place = match step {
+                0 => 0,
+                _ if step + 1 < made.n => 1,
+                _ => 2,
+            };
+            Some((place, found.answer.tied == Some(step)))
         });
         let count = |sort| met.clone().filter(|x| *x == sort).count();
-        let seen = [(false, false), (true, false)]
-            .map(|(after, last)| [false, true].map(|tied| count((after, last, tied))));
-        assert!(seen.iter().flatten().all(|&count| count > 10), "{seen:?}");
-        let last = count((true, true, false));
+        let often = [(0, false), (0, true), (1, false), (1, true)].map(count);
+        assert!(often.iter().all(|&count| count > 10), "{often:?}");
+        let last = count((2, false));
         assert!(last > 5, "{last}");
     }
 

@@ -97,7 +97,8 @@ fn run(input: &Input) -> Reply {
 /// The Rust's answer or, where it can't be asked, the second implementation's. Whether it can, and how many roots
 /// are inexact, both say and must agree.
 fn agreed(rust: Watched, second: Judged) -> Answer {
-    assert_eq!(rust.not_positive, second.not_positive, "pivots");
+    let (x, y) = (rust.not_positive, second.not_positive);
+    assert_eq!(x, y, "pivots at or below zero");
     match rust.asked() {
         None => second.answer,
         Some(answer) => {

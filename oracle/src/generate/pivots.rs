@@ -20,7 +20,7 @@ pub fn not_positive(n: usize, step: usize, rng: &mut Rng) -> Symmetric {
     })
 }
 
-/// Zeros, negative numbers, both, or few values, which tie. By a large column the test of tmp would go on.
+/// Zeros and negative numbers, a few of them, which tie, or any. With large columns the test of tmp alone would go on.
 fn none_positive(n: usize, _: usize, rng: &mut Rng) -> Symmetric {
     let any = rng.below(4) == 0;
     let few = rng.pick(&[&[0.0, -0.0][..], &[-1.0], &[-0.0, -1.0], &[-0.5, -1.0]]);
@@ -47,7 +47,7 @@ fn scale(rng: &mut Rng) -> f64 {
     2f64.powi(2 * rng.whole(-350, -300))
 }
 
-/// The column of the pivot before `step` is so large that it leaves negative numbers alone.
+/// The column of the pivot before `step` is so large that every diagonal entry after it becomes negative.
 fn negative_left(n: usize, step: usize, rng: &mut Rng) -> Symmetric {
     let scale = scale(rng);
     let pivot = |i: usize| 3.0 - i as f64 / step as f64;
@@ -62,8 +62,8 @@ fn negative_left(n: usize, step: usize, rng: &mut Rng) -> Symmetric {
     })
 }
 
-/// Powers of two: the pivot before `step`, which is 4, takes off a diagonal entry as much as it is, or more.
-/// So zeros are left that are no zeros beside gamma, and ties.
+/// Powers of two. The pivot before `step` is 4 and takes from each later diagonal entry as much as that is, or more:
+/// zeros and equal negative numbers are left, though tau times gamma isn't zero.
 fn exactly_left(n: usize, step: usize, rng: &mut Rng) -> Symmetric {
     let scale = scale(rng);
     let column: Vec<f64> = (0..n).map(|_| rng.pick(&[1.0, -1.0, 2.0])).collect();

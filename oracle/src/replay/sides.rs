@@ -35,8 +35,8 @@ fn entries(pair: &Pair) -> [Entry; 2] {
     [0, 1].map(|side| Entry::of(kind, pair.method, pair.matrices[side].entries()))
 }
 
-/// Small ones. But for SE99's tmp and SE90's pivot, the second matrix meets its bound exactly; by SE90's test of the
-/// pivot the first does.
+/// Small ones. At SE90's test of the pivot the first matrix meets the bound exactly; else, but for SE99's tmp, the
+/// second does.
 fn at_equality() -> Vec<Pair> {
     let (unit, small) = (f64::from_bits(1), 2f64.powi(-650));
     let given: [(u8, &[f64]); 9] = [
