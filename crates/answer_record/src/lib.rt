@@ -1,2 +1,4 @@
 // Answer records: what bytes they are, and writing them.
+#![tactic(auto)]
+
 pub mod write;

@@ -1,4 +1,6 @@
 // The arithmetic of doubles that the matrix helpers and the factorizations stand on.
+#![tactic(auto)]
+
 pub mod double;
 mod isqrt;
 pub mod outcome;

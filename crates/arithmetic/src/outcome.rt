@@ -4,7 +4,7 @@ ghost use Rattle.arithmetic.specs.Outcome.{number, alone, place, complete, ◌th
 
 // By their numbers. A record is checked for 1 (too long), 10 or 11, 1 (lengths, bytes after the last field), then 2 on; 12 and 13 come
 // between 4 and 5, 14 between 5 and 6, and 15 after 7.
-#[derive(Drop)]
+#[derive(Clone, Copy)]
 pub enum Outcome {
     Complete,
     // The record is too long, or its fields stand in order and a length, or a byte after them, is wrong.
@@ -36,7 +36,7 @@ pub enum Outcome {
 }
 
 // Row and column, or position, step or field and 0; 0 and 0 where no place is named.
-#[derive(Drop)]
+#[derive(Clone, Copy)]
 pub struct Place {
     pub row: usize,
     pub column: usize,

@@ -13,7 +13,7 @@ use crate::isqrt::long_root;
 use crate::outcome::Outcome;
 
 // A positive number: significand * 2^exponent units of 2^-1074.
-#[derive(Drop)]
+#[derive(Clone, Copy)]
 struct Number {
     significand: u64,
     exponent: u64,
@@ -21,7 +21,7 @@ struct Number {
 
 // The intermediate result, correct to infinite precision (5.1): whole * 2^scale units of 2^-1074, and less than one more 2^scale of them
 // where something was cut off.
-#[derive(Drop)]
+#[derive(Clone, Copy)]
 struct IntermediateResult {
     whole: u64,
     cut: bool,
@@ -79,7 +79,7 @@ fn round_ties_to_even(r: IntermediateResult) -> f64
 }
 
 // A root, and whether rounding changed it.
-#[derive(Drop)]
+#[derive(Clone, Copy)]
 pub struct Rounded {
     pub value: f64,
     pub inexact: bool,
@@ -128,7 +128,7 @@ pub fn sqrt_unchecked(x: f64) -> f64
 }
 
 // The root as a call of its own, and how the call ended. Beside a refusal the value is zero and the flag false.
-#[derive(Drop)]
+#[derive(Clone, Copy)]
 pub struct SqrtAnswer {
     pub outcome: Outcome,
     pub value: f64,

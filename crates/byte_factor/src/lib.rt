@@ -1,4 +1,6 @@
 // The factorization on bytes: doubles are eight bytes and contract numbers four, low byte first, p one byte an index.
+#![tactic(auto)]
+
 ghost use Rattle.std.specs.Prelude.{◌≡◌, true, ◌*◌, ◌≤◌, length};
 ghost use Rattle.arithmetic.specs.Outcome.{complete};
 ghost use Rattle.arithmetic.specs.declared.outcome.Outcome.TheVariants.{Complete};

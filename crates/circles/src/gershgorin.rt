@@ -9,7 +9,7 @@ use matrix::checks;
 use matrix::entries::{clear, get};
 
 // The sums of magnitudes of a row and of its column, without the diagonal.
-#[derive(Drop)]
+#[derive(Clone, Copy)]
 pub struct Sums {
     pub ri: f64,
     pub ci: f64,

@@ -1,2 +1,4 @@
 // The Gershgorin circles of a matrix.
+#![tactic(auto)]
+
 pub mod gershgorin;

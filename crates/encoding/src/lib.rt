@@ -1,4 +1,6 @@
 // Doubles, indices and contract numbers as bytes, low byte first.
+#![tactic(auto)]
+
 pub mod checks;
 pub mod read;
 pub mod write;

@@ -11,7 +11,7 @@ use modcholesky::calls::{factor, factor_numbered};
 
 // The tied step and the phase-two step, 255 for none, and how many of the diagonal roots are inexact.
 #[repr(C)]
-#[derive(Drop)]
+#[derive(Clone, Copy)]
 pub struct Factorization {
     pub refusal: Refusal,
     pub tied: usize,

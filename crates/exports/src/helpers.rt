@@ -12,7 +12,7 @@ use byte_helpers::swaps::{swap_columns, swap_rows};
 use matrix::utils::{EigenAnswer, SearchAnswer, eigenvalues_2x2};
 
 #[repr(C)]
-#[derive(Drop)]
+#[derive(Clone, Copy)]
 pub struct Eigenvalues {
     pub refusal: Refusal,
     pub hi: f64,
@@ -33,7 +33,7 @@ impl Eigenvalues {
 }
 
 #[repr(C)]
-#[derive(Drop)]
+#[derive(Clone, Copy)]
 pub struct FoundIndex {
     pub refusal: Refusal,
     pub index: usize,

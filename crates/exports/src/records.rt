@@ -8,7 +8,7 @@ use record::answer::{RecordAnswer, answer as answer_record};
 
 // How the call ended, and the answer's length.
 #[repr(C)]
-#[derive(Drop)]
+#[derive(Clone, Copy)]
 pub struct Written {
     pub refusal: Refusal,
     pub length: usize,

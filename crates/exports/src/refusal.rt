@@ -6,7 +6,7 @@ use arithmetic::outcome::Outcome;
 
 // Document 01's number, 0 for a complete call, and its place.
 #[repr(C)]
-#[derive(Drop)]
+#[derive(Clone, Copy)]
 pub struct Refusal {
     pub number: usize,
     pub row: usize,

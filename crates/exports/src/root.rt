@@ -8,7 +8,7 @@ use arithmetic::sqrt::{SqrtAnswer, sqrt};
 use methods::progress::one_if;
 
 #[repr(C)]
-#[derive(Drop)]
+#[derive(Clone, Copy)]
 pub struct Root {
     pub refusal: Refusal,
     pub value: f64,

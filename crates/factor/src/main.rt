@@ -1,5 +1,7 @@
 // Reads one matrix record from standard input and writes its answer record to standard output. Says on standard error what is broken
 // in a record's form, and when the answer can't be written.
+#![tactic(auto)]
+
 use answer_record::write::LONGEST_ANSWER;
 use arithmetic::outcome::Outcome;
 use libc::{STDERR_FILENO, STDIN_FILENO, STDOUT_FILENO};

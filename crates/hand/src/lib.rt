@@ -1,1 +1,2 @@
 // Theorems only: document 01's hand calculations, as the rows of specs/Hand.antt.
+#![tactic(auto)]

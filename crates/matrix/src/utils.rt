@@ -78,14 +78,14 @@ pub fn swap_columns(mat: &mut [f64], n: usize, idx1: usize, idx2: usize) -> Outc
 // ---- searches
 
 // The largest so far, and where it was first.
-#[derive(Drop)]
+#[derive(Clone, Copy)]
 pub struct Best {
     pub max: f64,
     pub index: usize,
 }
 
 // Where the largest is first, and whether it stands at two or more candidates.
-#[derive(Drop)]
+#[derive(Clone, Copy)]
 pub struct Found {
     pub index: usize,
     pub tied: bool,
@@ -155,7 +155,7 @@ pub fn largest(magnitude: bool, c: &[f64]) -> Found
 }
 
 // An index and how the call ended. Beside a refusal the index is 0.
-#[derive(Drop)]
+#[derive(Clone, Copy)]
 pub struct SearchAnswer {
     pub outcome: Outcome,
     pub index: usize,
@@ -196,7 +196,7 @@ pub fn index_of_largest_abs(c: &[f64]) -> SearchAnswer
 // ---- eigenvalues
 
 // The larger and the smaller eigenvalue.
-#[derive(Drop)]
+#[derive(Clone, Copy)]
 pub struct Eigen {
     pub hi: f64,
     pub lo: f64,
@@ -227,7 +227,7 @@ pub fn eigenvalues_2x2_unchecked(mat: [[f64; 2]; 2]) -> Eigen
 }
 
 // Eigenvalues and how the call ended. Beside a refusal both are zero.
-#[derive(Drop)]
+#[derive(Clone, Copy)]
 pub struct EigenAnswer {
     pub outcome: Outcome,
     pub eigen: Eigen,

@@ -6,7 +6,7 @@ ghost use Rattle.methods.specs.Result.{outcome_of, filled_count};
 use arithmetic::outcome::Outcome;
 
 // A step, or none: the first one stays.
-#[derive(Drop)]
+#[derive(Clone, Copy)]
 pub enum Mark {
     Never,
     Step(usize),
@@ -58,7 +58,7 @@ impl Mark {
 }
 
 // The Rust's Decomposition; L, e and p are in the lent buffers.
-#[derive(Drop)]
+#[derive(Clone, Copy)]
 pub struct Decomposition {
     pub outcome: Outcome,
     // The first step whose pivot search was tied.

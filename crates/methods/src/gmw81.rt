@@ -1,7 +1,7 @@
 // Values of GMW81.
 
 // A step's values: d[j], e[j] and the pivot after j.
-#[derive(Drop)]
+#[derive(Clone, Copy)]
 pub struct StepValues {
     pub d: f64,
     pub e: f64,

@@ -4,7 +4,7 @@ ghost use Rattle.methods.specs.Calls.{method_of};
 
 use crate::schnabel_eskow::Variant;
 
-#[derive(Drop)]
+#[derive(Clone, Copy)]
 pub enum Method {
     Gmw81,
     Se(Variant),

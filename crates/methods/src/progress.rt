@@ -4,7 +4,7 @@ ghost use Rattle.methods.specs.Progress.{begun, searched, left, stored, counted,
 
 use crate::decomposition::Mark;
 
-#[derive(Drop)]
+#[derive(Clone, Copy)]
 pub struct Progress {
     // The last amount above zero that phase two added.
     pub delta_prev: f64,
@@ -19,7 +19,7 @@ pub struct Progress {
 }
 
 // What a step stored: whether it is finite, and how many of its roots are inexact.
-#[derive(Drop)]
+#[derive(Clone, Copy)]
 pub struct Stores {
     pub ok: bool,
     pub inexact: usize,

@@ -2,14 +2,14 @@
 use matrix::utils::Eigen;
 
 // The two methods of Schnabel and Eskow.
-#[derive(Drop)]
+#[derive(Clone, Copy)]
 pub enum Variant {
     Se90,
     Se99,
 }
 
 // The constants that steer them; SE90 reads tau alone.
-#[derive(Drop)]
+#[derive(Clone, Copy)]
 pub struct Tolerances {
     pub tau: f64,
     pub tau_bar: f64,
@@ -17,7 +17,7 @@ pub struct Tolerances {
 }
 
 // What phase two adds last: one amount, or two eigenvalues with a shared amount.
-#[derive(Drop)]
+#[derive(Clone, Copy)]
 pub enum Last {
     One(f64),
     Pair(Eigen, f64),

@@ -1,4 +1,6 @@
 // The modified Cholesky factorizations GMW81, SE90 and SE99.
+#![tactic(auto)]
+
 pub mod calls;
 pub mod gmw81;
 pub mod se;

@@ -8,7 +8,7 @@ use crate::se99::Se99;
 use methods::decomposition::Decomposition;
 use methods::schnabel_eskow::Tolerances;
 
-#[derive(Drop)]
+#[derive(Clone, Copy)]
 pub struct Se90 {}
 
 impl Se90 {

@@ -7,7 +7,7 @@ use crate::calls;
 use methods::decomposition::Decomposition;
 use methods::schnabel_eskow::Tolerances;
 
-#[derive(Drop)]
+#[derive(Clone, Copy)]
 pub struct Se99 {}
 
 impl Se99 {

@@ -1,4 +1,6 @@
 // What SE90 and SE99 share of phase one.
+#![tactic(auto)]
+
 ghost use Rattle.std.specs.Prelude.{◌≡◌, List, cond, ℕ, ◌+◌, ◌*◌, ◌≤◌, ◌<◌, length, Float};
 ghost use Rattle.std.specs.Float.Ieee.{lt};
 ghost use Rattle.matrix.specs.Matrix.{Square};

@@ -38,7 +38,7 @@ fn factor_request(
 }
 
 // How the call ended, and the answer's length.
-#[derive(Drop)]
+#[derive(Clone, Copy)]
 pub struct RecordAnswer {
     pub outcome: Outcome,
     pub len: usize,

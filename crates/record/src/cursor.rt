@@ -5,7 +5,7 @@ ghost use Rattle.record.specs.Cursor.{expect, after, nothing_due, noted_if, foun
 use encoding::read::whole;
 
 // Which field is due, or how the walk ended: a field's index counts those that stand in the record.
-#[derive(Drop)]
+#[derive(Clone, Copy)]
 pub enum Stage {
     SizeDue,
     MethodDue,
@@ -20,14 +20,14 @@ pub enum Stage {
 }
 
 // Where a field's content stands.
-#[derive(Drop)]
+#[derive(Clone, Copy)]
 pub struct Part {
     pub start: usize,
     pub len: usize,
 }
 
 // The contents found so far.
-#[derive(Drop)]
+#[derive(Clone, Copy)]
 pub struct Parts {
     pub size: Part,
     pub method: Part,
@@ -38,7 +38,7 @@ pub struct Parts {
 }
 
 // `at` is where the next field starts.
-#[derive(Drop)]
+#[derive(Clone, Copy)]
 pub struct Cursor {
     pub at: usize,
     pub stage: Stage,

@@ -12,7 +12,7 @@ use modcholesky::calls::check_method;
 // ---- what a record asks for
 
 // Its size, its method's number, whether it has contract numbers, and where these and its entries stand.
-#[derive(Drop)]
+#[derive(Clone, Copy)]
 pub struct Request {
     pub size: usize,
     pub method: usize,

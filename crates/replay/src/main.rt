@@ -1,5 +1,7 @@
 // Runs the records of data/cases.bin and compares each answer with the oracle's, which stands beside it.
 // Writes a line for each case that differs, and a closing count.
+#![tactic(auto)]
+
 ghost use Rattle.std.specs.Prelude.{◌<◌, ◌≤◌};
 ghost use Rattle.record.specs.Record.{Counts};
 
