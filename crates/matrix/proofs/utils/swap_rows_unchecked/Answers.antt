@@ -1,0 +1,16 @@
+use Prim.Native.Nat.{◌-◌}
+use borrow.Author.Rules.{rules}
+use Rattle.arithmetic.proofs.Counting.{counting_turn, loops}
+use Rattle.matrix.specs.Swap.{swap_in_rows, swap_rows}
+use Rattle.matrix.proofs.utils.swap_rows_unchecked.Goals as goal
+
+pub loop-i-preserved : goal.loop-i-preserved
+unfolding swap_in_rows
+loop-i-preserved c = (counting_turn c.loop-i.invariant.0 (search rules) (rw (c.swap.ensures, c.cell-in-loop-i.ensures.0, c.cell.ensures.0)), search rules)
+
+pub returns : goal.returns
+unfolding swap_rows
+returns c = search loops
+
+pub loop-i-init : goal.loop-i-init
+loop-i-init c = search loops
