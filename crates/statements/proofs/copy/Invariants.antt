@@ -1,0 +1,11 @@
+use Prim.Native.Nat.{◌-◌}
+use lib.ListN.{get_or}
+use lib.Ieee.{nan}
+use Rattle.matrix.proofs.Filled.{Filling}
+use Rattle.statements.proofs.copy.Given as goal
+
+abbrev pub invariant-loop-i : goal.invariant-loop-i
+invariant-loop-i l = Filling nan (λ k. get_or l.from k nan) 0 l.n l.i l.initial.to l.to
+
+abbrev pub decreases-loop-i : goal.decreases-loop-i
+decreases-loop-i l = l.n - l.i
