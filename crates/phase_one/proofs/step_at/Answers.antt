@@ -1,5 +1,3 @@
--- A step of phase one after its first test: pivot, second test, iteration.
-use borrow.Author.Rules.{rules}
 use mathlib.Core.Path.{◌≡◌, sym, ap, ◌∙◌}
 use mathlib.Core.Bool.{Bool, true, false}
 use mathlib.Core.List.{List}
@@ -15,8 +13,7 @@ use Rattle.methods.specs.declared.schnabel_eskow.Tolerances.{Tolerances}
 use Rattle.methods.specs.declared.schnabel_eskow.Variant.{Variant}
 use Rattle.methods.proofs.SeLaws.{step_at-is}
 use Rattle.methods.proofs.Mirrored.{leaves_after-mirrored}
-use Rattle.phase_one.proofs.step_at.Statement.{statement}
-use Rattle.phase_one.proofs.step_at.Tie as tie
+use Rattle.phase_one.proofs.step_at.Goals as goal
 
 tested : (v : Variant) (t : Tolerances) (gamma : Float) (n j k : ℕ) (l l₁ : List Float) {b x : Bool} → j < n → mirrored n l₁ ≡ pivot_matrix n j k l → b ≡ leaves_after v t gamma n j l₁ → b ≡ x
     → leaves_after v t gamma n j (pivot_matrix n j k l) ≡ x
@@ -37,28 +34,19 @@ module _ (v : Variant) (t : Tolerances) (gamma : Float) (n j k : ℕ) (tie : Boo
       → (e g : List Float) → state l₂ e g p₁ q ≡ step_at v t gamma n j k tie (state l e g p r)
   goes_on l₂ q h f e g = rw (step_at-is, h) (f e g p₁ ∙ ap (factorize n j) (pivoted_is e g))
 
-returns : tie.Need-returns
-returns c =
+pub returns-then-leaves_after : goal.returns-then-leaves_after
+returns-then-leaves_after c =
     let c4 = c.before.before.before.before in
     let c9 = c4.before.before.before.before.before in
     let s = c9.before.before.before.before.before in
     let b = c9.pivot.ensures in
-    leaves _ _ _ _ _ _ _ _ _ _ _ _ _ b.0 b.1 c4.searched.ensures _ (tested _ _ _ _ _ _ _ _ (omega (arith, s.requires.1.1)) b.0 c.before.before.Leaves-after.ensures c.before.if1.true) c.left.ensures
+    leaves _ _ _ _ _ _ _ _ _ _ _ _ _ b.0 b.1 c4.searched-pivoted.ensures _ (tested _ _ _ _ _ _ _ _ (omega (arith, s.requires.p_len.1)) b.0 c.leaves_after.ensures c.if-leaves_after.true) c.left.ensures
 
-factorize-requires : tie.Need-factorize-requires
-factorize-requires c κs =
-    let c4 = c.before.before.before.before in
-    let s = c4.before.before.before.before.before.before.before.before.before.before in
-    (search rules, (omega (arith, s.requires.1.1), omega (arith, ap (λ (q : Progress). q.inexact) c4.searched.ensures, s.requires.1.2)))
-
-returns-2 : tie.Need-returns-2
-returns-2 c =
+pub returns : goal.returns
+returns c =
     let c4 = c.before.before.before.before in
     let c7 = c4.before.before.before in
     let c12 = c7.before.before.before.before.before in
     let s = c12.before.before.before.before.before in
     let b = c12.pivot.ensures in
-    goes_on _ _ _ _ _ _ _ _ _ _ _ _ _ b.0 b.1 c7.searched.ensures _ _ (tested _ _ _ _ _ _ _ _ (omega (arith, s.requires.1.1)) b.0 c4.before.Leaves-after.ensures c4.if1.false) c.before.before.factorize.ensures
-
-pub step-at-spec : {M : Type 1} → statement M
-step-at-spec = tie.close (tie.spec (λ c κs. search rules) (λ c κs. search rules) (λ c κs. search rules) (λ c κs. search rules) (λ c. search rules) (λ c. search rules) returns factorize-requires (λ c. search rules) (λ c. search rules) returns-2)
+    goes_on _ _ _ _ _ _ _ _ _ _ _ _ _ b.0 b.1 c7.searched-pivoted.ensures _ _ (tested _ _ _ _ _ _ _ _ (omega (arith, s.requires.p_len.1)) b.0 c4.leaves_after.ensures c4.if-leaves_after.false) c.factorize.ensures

@@ -1,4 +1,3 @@
--- A step of phase one: the test before the search, the search, and the rest.
 use borrow.Author.Rules.{rules}
 use mathlib.Core.Path.{◌≡◌, sym, ◌∙◌}
 use mathlib.Core.Bool.{Bool, true, false}
@@ -17,8 +16,7 @@ use Rattle.methods.specs.declared.schnabel_eskow.Variant.{Variant}
 use Rattle.methods.proofs.Mirrored.{leaves_before-mirrored, diagonal-mirrored}
 use Rattle.methods.proofs.Pivots.{length-diagonal, picked_below}
 use Rattle.methods.proofs.SeLaws.{phase_one_step-is}
-use Rattle.phase_one.proofs.phase_one_step.Statement.{statement}
-use Rattle.phase_one.proofs.phase_one_step.Tie as tie
+use Rattle.phase_one.proofs.phase_one_step.Goals as goal
 
 module _ (v : Variant) (t : Tolerances) (numbers : List ℕ) (gamma : Float) (n j : ℕ) (l : List Float) (p : List ℕ) (r : Progress) where
   leaves : {b : Bool} (q : Progress) → b ≡ leaves_before v t gamma n j l → b ≡ true
@@ -41,17 +39,12 @@ module _ (v : Variant) (t : Tolerances) (numbers : List ℕ) (gamma : Float) (n 
 mirrored-pick : (numbers p : List ℕ) (n : ℕ) (l : List Float) (j : ℕ) (f : Found) → f ≡ pick numbers p false (diagonal n l) j → f ≡ pick numbers p false (diagonal n (mirrored n l)) j
 mirrored-pick numbers p n l j f e = rw diagonal-mirrored e
 
-returns : tie.Need-returns
-returns c = leaves _ _ _ _ _ _ _ _ _ _ (c.before.before.leaves-before.ensures ∙ sym (leaves_before-mirrored _ _ _ _ _ _ (omega arith))) c.before.if1.true c.left.ensures
+pub returns-then-leaves_before : goal.returns-then-leaves_before
+returns-then-leaves_before c = leaves _ _ _ _ _ _ _ _ _ _ (c.leaves_before.ensures ∙ sym (leaves_before-mirrored _ _ _ _ _ _ (omega arith))) c.if-leaves_before.true c.left.ensures
 
-step-at-requires : tie.Need-step-at-requires
-step-at-requires c κs = (search rules, (search rules, picked_below _ _ _ _ _ _ _ c.before.before.before.before.search-diagonal.ensures (length-diagonal _ _) (omega arith), search rules))
+pub step_at-requires : goal.step_at-requires
+step_at-requires c = record { square = search rules; p_len = (search rules, picked_below _ _ _ _ _ _ _ c.search_diagonal-f.ensures (length-diagonal _ _) (omega arith), search rules) }
 
-returns-2 : tie.Need-returns-2
-returns-2 c =
-    let b = c.before.before.before.before.before.before.before.before.before in
-    let s = b.before.before.before.before.before.before.before.before.before.before.before in
-    goes_on _ _ _ _ _ _ _ _ _ _ _ _ _ (b.before.before.before.before.before.leaves-before.ensures ∙ sym (leaves_before-mirrored _ _ _ _ _ _ s.requires.1.2)) b.before.before.before.before.if1.false (mirrored-pick _ _ _ _ _ _ b.search-diagonal.ensures) c.before.before.before.before.step-at.ensures
-
-pub phase-one-step-spec : {M : Type 1} → statement M
-phase-one-step-spec = tie.close (tie.spec (λ c κs. search rules) (λ c κs. search rules) (λ c. search rules) returns (λ c κs. search rules) step-at-requires (λ c. search rules) (λ c. search rules) (λ c. search rules) returns-2)
+pub returns : goal.returns
+returns c =
+    goes_on _ _ _ _ _ _ _ _ _ _ _ _ _ (c.leaves_before.ensures ∙ sym (leaves_before-mirrored _ _ _ _ _ _ c.requires.p_len.2)) c.if-leaves_before.false (mirrored-pick _ _ _ _ _ _ c.search_diagonal-f.ensures) c.step_at.ensures
