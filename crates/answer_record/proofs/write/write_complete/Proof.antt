@@ -1,7 +1,7 @@
 -- `write_complete` meets its contract: the marks, the count, then p, e and L.
 use mathlib.Core.Path.{◌∙◌}
 use native.Mathlib.Omega.{arith}
-use Rattle.answer_record.specs.Writing.{result}
+use Rattle.answer_record.specs.Writing.{result_with}
 use Rattle.answer_record.proofs.WriteFields.{length-complete_fields, complete-written}
 use Rattle.answer_record.proofs.write.write_complete.Statement.{statement}
 use Rattle.answer_record.proofs.write.write_complete.Tie as tie
@@ -28,7 +28,7 @@ returns : tie.Need-returns
 returns c =
     let s = c.before.before.before.before.before.before.before.before.before.before.before.before.before.before.before.before.before in
     let a = s.args in
-    let r = result a.d a.l.now a.e.now a.p.now in
+    let r = result_with a.d a.l.now a.e.now a.p.now in
     complete-written _ _ _ _ _ r c.before.before.before.before.before.before.before.before.before.before.before.write-marks.ensures _ _ c.before.before.before.before.before.before.write-byte-field.ensures c.before.before.write-factor.ensures s.requires.0.1 (omega (arith, length-complete_fields r))
 
 pub write-complete-spec : {M : Type 1} → statement M
