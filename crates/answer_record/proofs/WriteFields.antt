@@ -14,7 +14,7 @@ use Rattle.encoding.specs.Bytes.{bytes, double_bytes}
 use Rattle.answer_record.specs.Field.{field}
 use Rattle.answer_record.specs.AnswerRecord.{step_byte, marks_fields, count_field, factor_fields, place_field, answer_record}
 use Rattle.encoding.specs.Writing.{over, Wrote}
-use Rattle.answer_record.specs.Writing.{Front, result}
+use Rattle.answer_record.specs.Writing.{Front, result_with}
 use Rattle.encoding.proofs.ByteLaws.{length-bytes, length-content}
 use Rattle.encoding.proofs.Over.{length_over, over-then}
 
@@ -125,6 +125,6 @@ module _ (out a c : List ℕ) (at next : ℕ) (r : Result) (x : (a ≡ over out 
       rw (g, ← q) (rest-written out a c at next r.decomposition (place_field t) x (y.0, omega arith) (omega arith))
 
 -- a refusal's record holds nothing of L, e and p
-pub refused-alike : (d : Decomposition) (l l' e e' : List Float) (p p' : List ℕ) → complete d.outcome ≡ false → answer_record (result d l e p) ≡ answer_record (result d l' e' p')
+pub refused-alike : (d : Decomposition) (l l' e e' : List Float) (p p' : List ℕ) → complete d.outcome ≡ false → answer_record (result_with d l e p) ≡ answer_record (result_with d l' e' p')
 unfolding answer_record
 refused-alike d l l' e e' p p' c = rw c

@@ -23,8 +23,8 @@ MarksFit d = StepFits d.tied × StepFits d.phase2
 abbrev pub PlaceFits : Place → Type 0
 PlaceFits at = (at.row < 256) × (at.column < 256)
 
-abbrev pub result : Decomposition → List Float → List Float → List ℕ → Result
-result d l e p = record { decomposition = d; l = l; e = e; p = p }
+abbrev pub result_with : Decomposition → List Float → List Float → List ℕ → Result
+result_with d l e p = record { decomposition = d; l = l; e = e; p = p }
 
 -- at most 18,889 bytes hold it
 pub record Fits (r : Result) : Type 0 where

@@ -6,7 +6,7 @@ ghost use Rattle.encoding.specs.Bytes.{bytes, double_bytes};
 ghost use Rattle.answer_record.specs.Field.{field};
 ghost use Rattle.answer_record.specs.AnswerRecord.{longest_answer, step_byte, marks_fields, count_field, factor_fields, place_field, answer_record};
 ghost use Rattle.encoding.specs.Writing.{over, Wrote, EachFinite};
-ghost use Rattle.answer_record.specs.Writing.{Front, StepFits, MarksFit, PlaceFits, Fits, result};
+ghost use Rattle.answer_record.specs.Writing.{Front, StepFits, MarksFit, PlaceFits, Fits, result_with};
 
 use arithmetic::outcome::Place;
 use encoding::write::{write_byte, write_doubles, write_order};
@@ -18,7 +18,7 @@ pub const LONGEST_ANSWER: usize = 18889;
 // A field's tag and length.
 fn write_head(out: &mut [u8], at: usize, tag: u8, len: usize) -> usize
     requires { (at + 3 ≤ length out.old) × (len < 65536) }
-    ensures* { λ r. ⌜ (out.new ≡ over out.old at (tag ∷ bytes 2 len)) × (r ≡ at + 3) ⌝ }
+    ensures { (out.new ≡ over out.old at (tag ∷ bytes 2 len)) × (result ≡ at + 3) }
 {
     let low = write_byte(out, at, tag);
     let high = write_byte(out, low, (len % 256) as u8);
@@ -27,7 +27,7 @@ fn write_head(out: &mut [u8], at: usize, tag: u8, len: usize) -> usize
 
 fn step_byte(m: Mark) -> u8
     requires { StepFits m }
-    ensures* { λ r. ⌜ r ≡ step_byte m ⌝ }
+    ensures { result ≡ step_byte m }
 {
     match m {
         Mark::Never => 255,
@@ -38,7 +38,7 @@ fn step_byte(m: Mark) -> u8
 // A field of one byte.
 fn write_byte_field(out: &mut [u8], at: usize, tag: u8, v: u8) -> usize
     requires { at + 4 ≤ length out.old }
-    ensures* { λ r. ⌜ (out.new ≡ over out.old at (field tag (v ∷ []))) × (r ≡ at + 4) ⌝ }
+    ensures { (out.new ≡ over out.old at (field tag (v ∷ []))) × (result ≡ at + 4) }
 {
     let next = write_head(out, at, tag, 1);
     write_byte(out, next, v)
@@ -47,7 +47,7 @@ fn write_byte_field(out: &mut [u8], at: usize, tag: u8, v: u8) -> usize
 fn write_doubles_field(out: &mut [u8], at: usize, tag: u8, x: &[f64]) -> usize
     requires x_in_bounds { (at + (3 + 8 * length x.now) ≤ length out.old) × (length x.now ≤ 2304) }
     requires each_finite { EachFinite x.now }
-    ensures* { λ r. ⌜ (out.new ≡ over out.old at (field tag (double_bytes x.now))) × (r ≡ at + (3 + 8 * length x.now)) ⌝ }
+    ensures { (out.new ≡ over out.old at (field tag (double_bytes x.now))) × (result ≡ at + (3 + 8 * length x.now)) }
 {
     let next = write_head(out, at, tag, 8 * x.len());
     write_doubles(out, next, x)
@@ -56,7 +56,7 @@ fn write_doubles_field(out: &mut [u8], at: usize, tag: u8, x: &[f64]) -> usize
 fn write_order_field(out: &mut [u8], at: usize, tag: u8, p: &[usize]) -> usize
     requires p_in_bounds { (at + (3 + length p.now) ≤ length out.old) × (length p.now ≤ 48) }
     requires all_below { AllBelow 256 p.now }
-    ensures* { λ r. ⌜ (out.new ≡ over out.old at (field tag p.now)) × (r ≡ at + (3 + length p.now)) ⌝ }
+    ensures { (out.new ≡ over out.old at (field tag p.now)) × (result ≡ at + (3 + length p.now)) }
 {
     let next = write_head(out, at, tag, p.len());
     write_order(out, next, p)
@@ -65,7 +65,7 @@ fn write_order_field(out: &mut [u8], at: usize, tag: u8, p: &[usize]) -> usize
 fn write_marks(out: &mut [u8], d: Decomposition) -> usize
     requires in_bounds { 12 ≤ length out.old }
     requires marks_fit { MarksFit d }
-    ensures* { λ r. ⌜ (out.new ≡ over out.old 0 (marks_fields d)) × (r ≡ 12) ⌝ }
+    ensures { (out.new ≡ over out.old 0 (marks_fields d)) × (result ≡ 12) }
 {
     let outcome = d.outcome;
     let tied = d.tied;
@@ -79,7 +79,7 @@ fn write_factor(out: &mut [u8], at: usize, p: &[usize], e: &[f64], l: &[f64]) ->
     requires at_in_bounds { at + 18873 ≤ length out.old }
     requires p_len_bound { (length p.now ≤ 48) × (length e.now ≤ 48) × (length l.now ≤ 2304) }
     requires all_below { AllBelow 256 p.now × EachFinite e.now × EachFinite l.now }
-    ensures* { λ r. ⌜ Wrote (factor_fields p.now e.now l.now) at out.old out.new r ⌝ }
+    ensures { Wrote (factor_fields p.now e.now l.now) at out.old out.new result }
 {
     let amounts = write_order_field(out, at, 0x14, p);
     let factor = write_doubles_field(out, amounts, 0x15, e);
@@ -89,7 +89,7 @@ fn write_factor(out: &mut [u8], at: usize, p: &[usize], e: &[f64], l: &[f64]) ->
 fn write_place(out: &mut [u8], at: usize, place: Place) -> usize
     requires at_in_bounds { at + 5 ≤ length out.old }
     requires place_fits { PlaceFits place }
-    ensures* { λ r. ⌜ (out.new ≡ over out.old at (place_field place)) × (r ≡ at + 5) ⌝ }
+    ensures { (out.new ≡ over out.old at (place_field place)) × (result ≡ at + 5) }
 {
     let row = write_head(out, at, 0x17, 2);
     let column = write_byte(out, row, place.row as u8);
@@ -98,8 +98,8 @@ fn write_place(out: &mut [u8], at: usize, place: Place) -> usize
 
 pub fn write_complete(out: &mut [u8], d: Decomposition, l: &[f64], e: &[f64], p: &[usize]) -> usize
     requires out_len { (length out.old ≡ longest_answer) × (complete d.outcome ≡ true) }
-    requires fits { Fits (result d l.now e.now p.now) }
-    ensures* { λ r. ⌜ Front (answer_record (result d l.now e.now p.now)) out.old out.new r ⌝ }
+    requires fits { Fits (result_with d l.now e.now p.now) }
+    ensures { Front (answer_record (result_with d l.now e.now p.now)) out.old out.new result }
 {
     let next = write_marks(out, d);
     let order = write_byte_field(out, next, 0x18, d.inexact as u8);
@@ -110,7 +110,7 @@ pub fn write_complete(out: &mut [u8], d: Decomposition, l: &[f64], e: &[f64], p:
 pub fn write_refusal(out: &mut [u8], d: Decomposition) -> usize
     requires out_len { (length out.old ≡ longest_answer) × (complete d.outcome ≡ false) }
     requires marks_fit { MarksFit d × PlaceFits (place d.outcome) }
-    ensures* { λ r. ⌜ Front (answer_record (result d [] [] [])) out.old out.new r ⌝ }
+    ensures { Front (answer_record (result_with d [] [] [])) out.old out.new result }
 {
     let next = write_marks(out, d);
     let outcome = d.outcome;

@@ -23,7 +23,7 @@ use Rattle.record.specs.Cursor.{content_at, walk}
 use Rattle.record.specs.MatrixRecord.{request_of, request, contracts_of, entries_of, check_record, request_checks, byte_checks}
 use Rattle.answer_record.specs.AnswerRecord.{longest_answer, answer_record}
 use Rattle.record.specs.Record.{refused, result_of, result_to, Lent, OwnContracts, request_call, answer, record_call_of, Answers, Counts, record_call}
-use Rattle.answer_record.specs.Writing.{Front, MarksFit, PlaceFits, Fits, result}
+use Rattle.answer_record.specs.Writing.{Front, MarksFit, PlaceFits, Fits, result_with}
 use Rattle.record.specs.declared.cursor.Cursor.{Cursor}
 use Rattle.record.specs.declared.cursor.Part.{Part}
 use Rattle.record.specs.declared.read.Request.{Request}
@@ -78,28 +78,28 @@ module _ (r : Request) (contracts entries ns : List ℕ) (a l work e : List Floa
     | fails c ↦ ap (λ (x : Call). x.decomposition) calls_it ∙ rw c
   ]
 
-  result_is : complete d.outcome ≡ true → result d l' e' p' ≡ result_to r contracts entries
+  result_is : complete d.outcome ≡ true → result_with d l' e' p' ≡ result_to r contracts entries
   unfolding result_to request_call
   result_is o = elim (is (complete (check_symmetric r.size (doubles entries)))) [
-    | holds c ↦ ap (λ (x : Call). result x.decomposition x.l x.e x.p) calls_it ∙ rw c
+    | holds c ↦ ap (λ (x : Call). result_with x.decomposition x.l x.e x.p) calls_it ∙ rw c
     | fails c ↦ absurd (false≢true (sym c ∙ (rw (decomposition-is, c) at o)))
   ]
 
   module _ (room : ℕ) (h : Accepted (request_checks r room contracts entries)) where
-    pub complete-fits : complete d.outcome ≡ true → Fits (result d l' e' p')
+    pub complete-fits : complete d.outcome ≡ true → Fits (result_with d l' e' p')
     complete-fits o = rw (result_is o) (request-fits r room contracts entries h)
 
     pub refused-fits : MarksFit d × PlaceFits (place d.outcome)
     refused-fits = let f = request-fits r room contracts entries h in (rw decomposition-is f.marks, rw decomposition-is f.placed)
 
   module _ (out out' : List ℕ) (len : ℕ) where
-    pub complete-answers : complete d.outcome ≡ true → Front (answer_record (result d l' e' p')) out out' len → Answers (result_to r contracts entries) out out' (record { outcome = d.outcome; len = len })
+    pub complete-answers : complete d.outcome ≡ true → Front (answer_record (result_with d l' e' p')) out out' len → Answers (result_to r contracts entries) out out' (record { outcome = d.outcome; len = len })
     complete-answers o w = record { front = rw (← result_is o) w; outcome_is = ap (λ (x : Decomposition). x.outcome) decomposition-is }
 
-    pub refused-answers : complete d.outcome ≡ false → Front (answer_record (result d [] [] [])) out out' len → Answers (result_to r contracts entries) out out' (record { outcome = d.outcome; len = len })
+    pub refused-answers : complete d.outcome ≡ false → Front (answer_record (result_with d [] [] [])) out out' len → Answers (result_to r contracts entries) out out' (record { outcome = d.outcome; len = len })
     refused-answers o w =
         let t = result_to r contracts entries in
-        let e : answer_record (result d [] [] []) ≡ answer_record t = rw decomposition-is (refused-alike t.decomposition [] t.l [] t.e [] t.p (rw decomposition-is at o)) in
+        let e : answer_record (result_with d [] [] []) ≡ answer_record t = rw decomposition-is (refused-alike t.decomposition [] t.l [] t.e [] t.p (rw decomposition-is at o)) in
         record { front = rw (← e) w; outcome_is = ap (λ (x : Decomposition). x.outcome) decomposition-is }
 
 -- ---- what is read off a walk over b
@@ -134,7 +134,7 @@ module _ (b : List ℕ) where
   bytes-fits h d e = let f = bytes_fit b in rw e (h, (f.marks, f.placed))
 
   pub bytes-answers : complete (byte_checks b longest_answer) ≡ false → (o : Outcome) → o ≡ byte_checks b longest_answer → (d : Decomposition) → d ≡ (refused o).decomposition
-      → (out out' : List ℕ) (len : ℕ) → Front (answer_record (result d [] [] [])) out out' len → Answers (result_of b) out out' (record { outcome = o; len = len })
+      → (out out' : List ℕ) (len : ℕ) → Front (answer_record (result_with d [] [] [])) out out' len → Answers (result_of b) out out' (record { outcome = o; len = len })
   bytes-answers h o eo d ed out out' len w = rw (bytes-refused b h) (record { front = rw (ed, eo) at w; outcome_is = eo })
 
 -- ---- the call

@@ -17,7 +17,7 @@ use Rattle.methods.specs.declared.decomposition.Mark.TheVariants.{Never, Step}
 use Rattle.encoding.specs.Bytes.{bytes, doubles, double_bytes}
 use Rattle.answer_record.specs.Field.{field}
 use Rattle.answer_record.specs.AnswerRecord.{step_byte, marks_fields, count_field, factor_fields, place_field, answer_record}
-use Rattle.answer_record.specs.Writing.{StepFits, Fits, result}
+use Rattle.answer_record.specs.Writing.{StepFits, Fits, result_with}
 use Rattle.whole_calls.specs.ReadBack.{Field, split, outcome_read, mark_read, result_read, read_answer}
 use Rattle.encoding.proofs.ByteLaws.{length-content}
 use Rattle.answer_record.proofs.WriteFields.{length-marks}
@@ -102,7 +102,7 @@ module _ (r : Result) (f : Fits r) where
       ap result_read (complete-fields r f c)
       ∙ rw (o, mark-read r.decomposition.tied f.marks.0, mark-read r.decomposition.phase2 f.marks.1, doubles-content r.e de, doubles-content r.l dl)
 
-  pub read_refused : complete r.decomposition.outcome ≡ false → r.decomposition.inexact ≡ 0 → read_answer (answer_record r) ≡ result r.decomposition [] [] []
+  pub read_refused : complete r.decomposition.outcome ≡ false → r.decomposition.inexact ≡ 0 → read_answer (answer_record r) ≡ result_with r.decomposition [] [] []
   unfolding read_answer doubles
   read_refused c k =
       ap result_read (refused-fields r f c)

@@ -1,0 +1,16 @@
+use Prim.Native.Nat.{◌-◌}
+use borrow.Author.Rules.{rules}
+use Rattle.arithmetic.proofs.Counting.{counting_start, counting_turn, loops}
+use Rattle.matrix.specs.Matrix.{put}
+use Rattle.methods.specs.Gmw81.{dot}
+use Rattle.methods.proofs.GmwLaws.{column-is}
+use Rattle.gmw81_steps.proofs.column.Goals as goal
+
+pub loop-i-preserved : goal.loop-i-preserved
+loop-i-preserved c = (counting_turn c.loop-i.invariant.0 (search rules) (rw (c.put.ensures, c.dot.ensures, c.get.ensures)), search rules)
+
+pub loop-i-init : goal.loop-i-init
+loop-i-init c = (counting_start (search rules), search rules)
+
+pub returns : goal.returns
+returns c = search (loops, column-is)

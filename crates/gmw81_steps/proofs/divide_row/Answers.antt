@@ -1,0 +1,15 @@
+use Prim.Native.Nat.{◌-◌}
+use borrow.Author.Rules.{rules}
+use Rattle.arithmetic.proofs.Counting.{counting_turn, loops}
+use Rattle.matrix.specs.Matrix.{put}
+use Rattle.methods.proofs.GmwLaws.{divided_is}
+use Rattle.gmw81_steps.proofs.divide_row.Goals as goal
+
+pub loop-s-preserved : goal.loop-s-preserved
+loop-s-preserved c = (counting_turn c.loop-s.invariant.0 (search rules) (rw (c.put.ensures, c.get.ensures)), search rules)
+
+pub loop-s-init : goal.loop-s-init
+loop-s-init c = search loops
+
+pub returns : goal.returns
+returns c = search (loops, divided_is)

@@ -1,0 +1,14 @@
+use Prim.Native.Nat.{◌-◌}
+use borrow.Author.Rules.{rules}
+use Rattle.arithmetic.proofs.Counting.{counting_turn, loops}
+use Rattle.methods.proofs.GmwLaws.{dot-is}
+use Rattle.gmw81_steps.proofs.dot.Goals as goal
+
+pub loop-s-preserved : goal.loop-s-preserved
+loop-s-preserved c = counting_turn c.loop-s.invariant (search rules) (rw (c.get-in-loop-s.ensures, c.get.ensures))
+
+pub loop-s-init : goal.loop-s-init
+loop-s-init c = search loops
+
+pub returns : goal.returns
+returns c = search (loops, dot-is)

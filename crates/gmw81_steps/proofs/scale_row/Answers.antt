@@ -1,0 +1,11 @@
+use Prim.Native.Nat.{◌-◌}
+use borrow.Author.Rules.{rules}
+use Rattle.arithmetic.proofs.Counting.{counting_turn, loops}
+use Rattle.matrix.specs.Matrix.{put}
+use Rattle.gmw81_steps.proofs.scale_row.Goals as goal
+
+pub loop-k-preserved : goal.loop-k-preserved
+loop-k-preserved c = (counting_turn c.loop-k.invariant.0 (search rules) (rw (c.put.ensures, c.get.ensures)), search rules)
+
+pub loop-k-init : goal.loop-k-init
+loop-k-init c = search loops

@@ -1,0 +1,11 @@
+use Prim.Native.Nat.{◌-◌}
+use borrow.Author.Rules.{rules}
+use Rattle.arithmetic.proofs.Counting.{counting_turn, loops}
+use Rattle.matrix.specs.Matrix.{put}
+use Rattle.gmw81_steps.proofs.unit_diagonal.Goals as goal
+
+pub loop-i-preserved : goal.loop-i-preserved
+loop-i-preserved c = (counting_turn c.loop-i.invariant.0 (search rules) c.put.ensures, search rules)
+
+pub loop-i-init : goal.loop-i-init
+loop-i-init c = search loops
