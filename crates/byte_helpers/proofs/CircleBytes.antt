@@ -15,7 +15,7 @@ use Rattle.arithmetic.specs.Outcome.{complete}
 use Rattle.arithmetic.specs.declared.outcome.Outcome.{Outcome}
 use Rattle.arithmetic.proofs.Cases.{is, holds, fails}
 use Rattle.arithmetic.proofs.LoopLaws.{range-ind}
-use Rattle.matrix.specs.Matrix.{Square, at, zeros}
+use Rattle.matrix.specs.Matrix.{Square, zeros}
 use Rattle.matrix.specs.Checks.{check_finite, AllFinite}
 use Rattle.matrix.proofs.CheckLaws.{Accepted, both_accepted, size_accepted, buffer_accepted, entries-accepted}
 use Rattle.circles.specs.Circles.{CirclesCall, circles_call, centre, radius, overflow, set_to, set_each, gershgorin_circles}

@@ -1,8 +1,7 @@
 use mathlib.Core.Path.{◌≡◌, refl, ap, ◌∙◌}
 use mathlib.Core.Bool.{Bool, true, false, not}
 use mathlib.Core.List.{List}
-use mathlib.Core.Logic.{inl, inr}
-use Prim.Native.Nat.{ℕ, ◌-◌}
+use Prim.Native.Nat.{ℕ}
 use native.Mathlib.Decide.{dec_lt}
 use native.Mathlib.Omega.{arith}
 use borrow.Author.Rules.{rules}
@@ -16,6 +15,7 @@ use Rattle.matrix.specs.Checks.{first_same, came_before}
 use Rattle.matrix.proofs.CheckLaws.{none_bad}
 use Rattle.solve.proofs.checks.came_before.Invariants.{other}
 use Rattle.solve.proofs.checks.came_before.Goals as goal
+use Rattle.solve.proofs.checks.came_before.Goals.{then-p-i, else-p-i}
 
 twice : (b : Bool) → b ≡ not (not b)
 twice true = refl
@@ -31,8 +31,8 @@ pub loop-i-preserved : goal.loop-i-preserved
 loop-i-preserved c =
     let s = c.loop-i in
     counting_turn s.invariant (search rules) (elim c.if-p-i.branch [
-      | inl t ↦ t.1 ∙ and_fails s.new _ _ refl (ap not (ap not (eq-eqb _ _ t.0.taken)))
-      | inr t ↦ t.1 ∙ and_passes s.new _ _ refl (ap not (ap not (ne_eqb _ _ t.0.left)))
+      | then-p-i t ↦ t.new-is ∙ and_fails s.new _ _ refl (ap not (ap not (eq-eqb _ _ t.if-p-i.true)))
+      | else-p-i t ↦ t.new-is ∙ and_passes s.new _ _ refl (ap not (ap not (ne_eqb _ _ t.if-p-i.false)))
     ])
 
 pub returns : goal.returns

@@ -3,7 +3,7 @@ use borrow.Author.Tests.{le-leb, lt-leb, lt-ltb, le-ltb}
 use mathlib.Core.Bool.{Bool, not}
 use mathlib.Core.List.{List}
 use mathlib.Core.Path.{◌≡◌, refl, sym, ap, ◌∙◌}
-use Prim.Native.Nat.{ℕ, ◌+◌, ◌-◌}
+use Prim.Native.Nat.{ℕ, ◌+◌}
 use native.Mathlib.Decide.{dec_lt}
 use native.Mathlib.Nat.{le_refl}
 use native.Mathlib.Omega.{arith}
@@ -26,20 +26,17 @@ tested n l i e = sym (ap not (e ∙ none_bad (λ j. not (finite (at n l i j))) (
 
 pub returns-then-not-row_finite : goal.returns-then-not-row_finite
 returns-then-not-row_finite c =
-    let f = c.before.before in
-    let t = f.before in
-    let h = t.loop-i-test.true in
-    let a = t.args in
-    let i = t.loop-i.i in
-    let e : first_row a.n a.l.now ≡ i = t.loop-i.invariant.1 ∙ search_found _ _ _ h (tested a.n a.l.now i f.row_finite.ensures ∙ (ap not c.if-not-row_finite.true)) in
+    let h = c.loop-i-test.true in
+    let a = c.args in
+    let i = c.loop-i.i in
+    let e : first_row a.n a.l.now ≡ i = c.loop-i.invariant.1 ∙ search_found _ _ _ h (tested a.n a.l.now i c.row_finite.ensures ∙ (ap not c.if-not-row_finite.true)) in
     rw (e, lt-ltb _ _ h, c.first_in_row.ensures)
 
 pub loop-i-preserved : goal.loop-i-preserved
 loop-i-preserved c =
-    let t = c.before.before in
-    let a = t.args in
-    let good = tested a.n a.l.now t.loop-i.i c.row_finite.ensures ∙ (ap not c.if-not-row_finite.false) in
-    (search rules, t.loop-i.invariant.1 ∙ search_turn _ _ _ t.loop-i-test.true good)
+    let a = c.args in
+    let good = tested a.n a.l.now c.loop-i.i c.row_finite.ensures ∙ (ap not c.if-not-row_finite.false) in
+    (search rules, c.loop-i.invariant.1 ∙ search_turn _ _ _ c.loop-i-test.true good)
 
 pub returns : goal.returns
 returns c =

@@ -1,27 +1,21 @@
 use borrow.Author.Rules.{rules}
 use borrow.Author.Tests.{le-leb, lt-leb, lt-ltb, le-ltb}
 use mathlib.Core.Path.{sym, ◌∙◌}
-use Prim.Native.Nat.{◌-◌}
 use native.Mathlib.Nat.{le_refl}
 use Rattle.matrix.proofs.CheckLaws.{search_found, search_turn, search_end}
 use Rattle.solve.proofs.checks.check_order.Goals as goal
 
 pub returns-then-n-p : goal.returns-then-n-p
 returns-then-n-p c =
-    let t = c.before.before in
-    rw (t.loop-k.invariant.1 ∙ search_found _ _ _ t.loop-k-test.true (rw (le-leb _ _ c.if-n-p.true)), lt-ltb _ _ t.loop-k-test.true)
+    rw (c.loop-k.invariant.1 ∙ search_found _ _ _ c.loop-k-test.true (rw (le-leb _ _ c.if-n-p.true)), lt-ltb _ _ c.loop-k-test.true)
 
 pub returns-then-came_before : goal.returns-then-came_before
 returns-then-came_before c =
-    let f = c.before.before in
-    let t = f.before.before in
-    rw (t.loop-k.invariant.1 ∙ search_found _ _ _ t.loop-k-test.true (rw (lt-leb _ _ f.if-n-p.false) (sym c.came_before.ensures ∙ c.if-came_before.true)), lt-ltb _ _ t.loop-k-test.true)
+    rw (c.loop-k.invariant.1 ∙ search_found _ _ _ c.loop-k-test.true (rw (lt-leb _ _ c.if-n-p.false) (sym c.came_before.ensures ∙ c.if-came_before.true)), lt-ltb _ _ c.loop-k-test.true)
 
 pub loop-k-preserved : goal.loop-k-preserved
 loop-k-preserved c =
-    let f = c.before.before in
-    let t = f.before.before in
-    (search rules, t.loop-k.invariant.1 ∙ search_turn _ _ _ t.loop-k-test.true (rw (lt-leb _ _ f.if-n-p.false) (sym c.came_before.ensures ∙ c.if-came_before.false)))
+    (search rules, c.loop-k.invariant.1 ∙ search_turn _ _ _ c.loop-k-test.true (rw (lt-leb _ _ c.if-n-p.false) (sym c.came_before.ensures ∙ c.if-came_before.false)))
 
 pub returns : goal.returns
 returns c =

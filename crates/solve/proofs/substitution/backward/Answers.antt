@@ -1,5 +1,5 @@
-use mathlib.Core.Path.{refl, ◌∙◌}
-use Prim.Native.Nat.{◌-◌}
+use mathlib.Core.Path.{refl}
+use native.Mathlib.Omega.{arith}
 use borrow.Author.Rules.{rules}
 use Rattle.arithmetic.proofs.Counting.{counting_start, counting_turn, counting_end}
 use Rattle.solve.specs.Substitution.{backward}
@@ -11,7 +11,7 @@ loop-i-init c = (counting_start (search rules), refl)
 pub loop-i-preserved : goal.loop-i-preserved
 loop-i-preserved c =
     let l = c.loop-i in
-    (counting_turn l.invariant.0 (search rules) c.backward_row-outcome.ensures, c.w-1.given ∙ l.invariant.1)
+    (counting_turn l.invariant.0 (search rules) c.backward_row-outcome.ensures, omega arith)
 
 pub returns : goal.returns
 unfolding backward

@@ -8,9 +8,6 @@ returns-then-not-complete c = sym (backward-row_stays _ _ _ (solved_rows _ _) (s
 
 pub returns : goal.returns
 returns c =
-    let r = c.before.before in
-    let g = r.before.before in
-    let f = g.before.before.before.before in
-    let a = f.args in
-    backward-row_goes a.n a.l.now a.t (solved_rows a.before a.w-1.now) (sym f.complete.ensures ∙ f.if-not-complete.false)
-    g.get.ensures g.backward_sum.ensures r.store.ensures
+    let a = c.args in
+    backward-row_goes a.n a.l.now a.t (solved_rows a.before a.w.now) (sym c.complete.ensures ∙ c.if-not-complete.false)
+    c.get.ensures c.backward_sum.ensures c.store.ensures

@@ -8,9 +8,6 @@ returns-then-not-complete c = sym (forward-row_stays _ _ _ (solved_rows _ _) _ _
 
 pub returns : goal.returns
 returns c =
-    let r = c.before.before in
-    let g = r.before.before in
-    let f = g.before.before.before.before.before in
-    let a = f.args in
-    forward-row_goes a.n a.l.now a.t (solved_rows a.before a.z-1.now) (sym f.complete.ensures ∙ f.if-not-complete.false)
-    g.get.ensures a.p.now a.b.now g.forward_sum.ensures r.store.ensures
+    let a = c.args in
+    forward-row_goes a.n a.l.now a.t (solved_rows a.before a.z.now) (sym c.complete.ensures ∙ c.if-not-complete.false)
+    c.get.ensures a.p.now a.b.now c.forward_sum.ensures c.store.ensures

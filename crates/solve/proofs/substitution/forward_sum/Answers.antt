@@ -1,6 +1,6 @@
-use Prim.Native.Nat.{◌-◌}
 use borrow.Author.Rules.{rules}
 use Rattle.arithmetic.proofs.Counting.{counting_turn, loops}
+use Rattle.solve.proofs.SolveLaws.{forward-sum_is}
 use Rattle.solve.proofs.substitution.forward_sum.Goals as goal
 
 pub loop-k-preserved : goal.loop-k-preserved
@@ -10,4 +10,4 @@ pub loop-k-init : goal.loop-k-init
 loop-k-init c = search loops
 
 pub returns : goal.returns
-returns c = search loops
+returns c = search (loops, forward-sum_is)

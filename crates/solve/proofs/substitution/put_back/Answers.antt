@@ -1,6 +1,6 @@
 use mathlib.Core.List.{List}
 use mathlib.Core.Path.{◌≡◌, refl}
-use Prim.Native.Nat.{ℕ, ◌-◌}
+use Prim.Native.Nat.{ℕ}
 use borrow.Author.Rules.{rules}
 use lib.Ieee.{Float, nan}
 use lib.ListN.{get_or, set, length-set}
@@ -23,6 +23,4 @@ from-zeros n k p w cleared y l z h = rw (z, l) at h
 
 pub returns : goal.returns
 returns c =
-    let s = c.before.before.before.before in
-    let a = s.before.before.before.before.before in
-    from-zeros _ _ _ _ _ _ a.requires.w_len.1 s.clear.ensures (counting_end c.loop-t.invariant.0 (search rules))
+    from-zeros _ _ _ _ _ _ c.requires.w_len.1 c.clear.ensures (counting_end c.loop-t.invariant.0 (search rules))

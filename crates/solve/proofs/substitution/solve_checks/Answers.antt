@@ -9,13 +9,10 @@ returns-then-not-complete c = refused c.length_checks-lengths.ensures c.complete
 
 pub content_checks-requires : goal.content_checks-requires
 content_checks-requires c =
-    let r = c.before.before in
-    let a = r.args in
-    lengths_square a.n a.l.now a.p.now a.b.now a.y r.length_checks-lengths.ensures c.complete.ensures (ap not c.if-not-complete.false)
+    let a = c.args in
+    lengths_square a.n a.l.now a.p.now a.b.now a.y c.length_checks-lengths.ensures c.complete.ensures (ap not c.if-not-complete.false)
 
 pub returns : goal.returns
 returns c =
-    let i = c.before in
-    let r = i.before.before in
-    let a = r.args in
-    contents_decide a.n a.l.now a.p.now a.b.now a.y r.length_checks-lengths.ensures i.complete.ensures (ap not i.if-not-complete.false) c.content_checks.ensures
+    let a = c.args in
+    contents_decide a.n a.l.now a.p.now a.b.now a.y c.length_checks-lengths.ensures c.complete.ensures (ap not c.if-not-complete.false) c.content_checks.ensures
