@@ -13,7 +13,7 @@ use lib.Ieee.Bits.{is_true}
 use lib.Ieee.Scale.{finite}
 use lib.Ieee.Positive.{positive}
 use Rattle.arithmetic.specs.Double.{plus_zero}
-use Rattle.arithmetic.specs.Outcome.{complete, refuse, ◌then◌}
+use Rattle.arithmetic.specs.Outcome.{complete, refuse}
 use Rattle.arithmetic.specs.Sqrt.{magnitude, sqrt, inexact, flagged, sqrt_checks, sqrt_call}
 use Rattle.arithmetic.specs.Nearest.{NotNegative}
 use Rattle.arithmetic.specs.Inexact.{ExactRoot, InexactTheorem, CutOffTheorem}

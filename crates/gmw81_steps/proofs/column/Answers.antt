@@ -1,8 +1,5 @@
-use Prim.Native.Nat.{◌-◌}
 use borrow.Author.Rules.{rules}
 use Rattle.arithmetic.proofs.Counting.{counting_start, counting_turn, loops}
-use Rattle.matrix.specs.Matrix.{put}
-use Rattle.methods.specs.Gmw81.{dot}
 use Rattle.methods.proofs.GmwLaws.{column-is}
 use Rattle.gmw81_steps.proofs.column.Goals as goal
 

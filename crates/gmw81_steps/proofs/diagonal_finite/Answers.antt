@@ -1,6 +1,4 @@
-use Prim.Native.Nat.{◌-◌}
 use borrow.Author.Rules.{rules}
-use lib.Ieee.Scale.{finite}
 use Rattle.arithmetic.proofs.Counting.{counting_start, counting_turn, loops}
 use Rattle.gmw81_steps.proofs.diagonal_finite.Goals as goal
 

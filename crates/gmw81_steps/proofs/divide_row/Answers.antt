@@ -1,7 +1,5 @@
-use Prim.Native.Nat.{◌-◌}
 use borrow.Author.Rules.{rules}
 use Rattle.arithmetic.proofs.Counting.{counting_turn, loops}
-use Rattle.matrix.specs.Matrix.{put}
 use Rattle.methods.proofs.GmwLaws.{divided_is}
 use Rattle.gmw81_steps.proofs.divide_row.Goals as goal
 

@@ -3,7 +3,7 @@ use Prim.Native.Nat.{◌-◌}
 use lib.ListN.{get_or}
 use lib.Ieee.{nan}
 use Rattle.arithmetic.specs.Loop.{range}
-use Rattle.arithmetic.specs.Sqrt.{sqrt, inexact}
+use Rattle.arithmetic.specs.Sqrt.{sqrt}
 use Rattle.matrix.proofs.Filled.{Filling}
 use Rattle.methods.specs.Gmw81.{count_root}
 use Rattle.gmw81_steps.proofs.roots.Given as goal

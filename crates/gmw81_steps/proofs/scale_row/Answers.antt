@@ -1,7 +1,5 @@
-use Prim.Native.Nat.{◌-◌}
 use borrow.Author.Rules.{rules}
 use Rattle.arithmetic.proofs.Counting.{counting_turn, loops}
-use Rattle.matrix.specs.Matrix.{put}
 use Rattle.gmw81_steps.proofs.scale_row.Goals as goal
 
 pub loop-k-preserved : goal.loop-k-preserved

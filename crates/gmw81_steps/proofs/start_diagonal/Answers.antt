@@ -1,7 +1,5 @@
-use Prim.Native.Nat.{◌-◌}
 use borrow.Author.Rules.{rules}
 use Rattle.arithmetic.proofs.Counting.{counting_turn, counting_end, loops}
-use Rattle.matrix.specs.Matrix.{put}
 use Rattle.methods.proofs.GmwLaws.{start_is}
 use Rattle.gmw81_steps.proofs.start_diagonal.Goals as goal
 

@@ -1,5 +1,5 @@
 use mathlib.Core.Path.{refl, ◌∙◌}
-use Prim.Native.Nat.{◌-◌, zero-le}
+use Prim.Native.Nat.{zero-le}
 use borrow.Author.Rules.{rules}
 use Rattle.arithmetic.proofs.LoopLaws.{loop_start, loop_turn}
 use Rattle.methods.specs.Gmw81.{state, step}

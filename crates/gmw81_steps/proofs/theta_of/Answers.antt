@@ -1,4 +1,3 @@
-use Prim.Native.Nat.{◌-◌}
 use borrow.Author.Rules.{rules}
 use Rattle.arithmetic.proofs.Counting.{counting_start, counting_turn, loops}
 use Rattle.methods.proofs.GmwLaws.{theta_is}

@@ -1,7 +1,5 @@
-use Prim.Native.Nat.{◌-◌}
 use borrow.Author.Rules.{rules}
 use Rattle.arithmetic.proofs.Counting.{counting_turn, loops}
-use Rattle.matrix.specs.Matrix.{put}
 use Rattle.gmw81_steps.proofs.unit_diagonal.Goals as goal
 
 pub loop-i-preserved : goal.loop-i-preserved

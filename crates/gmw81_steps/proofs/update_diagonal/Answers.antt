@@ -1,8 +1,5 @@
-use Prim.Native.Nat.{◌-◌}
 use borrow.Author.Rules.{rules}
-use Rattle.arithmetic.specs.Double.{square}
 use Rattle.arithmetic.proofs.Counting.{counting_start, counting_turn, loops}
-use Rattle.matrix.specs.Matrix.{put}
 use Rattle.methods.proofs.GmwLaws.{diagonal-is}
 use Rattle.gmw81_steps.proofs.update_diagonal.Goals as goal
 

@@ -1,6 +1,4 @@
-use Prim.Native.Nat.{◌-◌}
 use Rattle.arithmetic.proofs.Counting.{counting_start, counting_turn, loops}
-use Rattle.matrix.specs.Matrix.{put}
 use borrow.Author.Rules.{rules}
 use Rattle.methods.specs.Statements.{clear_after}
 use Rattle.statements.proofs.clear_after.Goals as goal

@@ -1,4 +1,3 @@
-use Prim.Native.Nat.{◌-◌}
 use Rattle.arithmetic.proofs.Counting.{counting_turn, loops}
 use borrow.Author.Rules.{rules}
 use Rattle.methods.specs.Statements.{fold_diagonal, diagonal_max}

@@ -1,5 +1,4 @@
 use mathlib.Core.Path.{refl}
-use Prim.Native.Nat.{◌-◌}
 use native.Mathlib.Omega.{arith}
 use Rattle.methods.proofs.Rows.{rows_start, rows_more}
 use borrow.Author.Rules.{rules}

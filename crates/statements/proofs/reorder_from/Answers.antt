@@ -1,6 +1,6 @@
 use mathlib.Core.Path.{◌≡◌, refl}
 use mathlib.Core.List.{List}
-use Prim.Native.Nat.{ℕ, ◌-◌, zero-le}
+use Prim.Native.Nat.{ℕ, zero-le}
 use lib.ListN.{get_or, set, length-set}
 use lib.Ieee.{Float, nan}
 use Rattle.arithmetic.specs.Loop.{range}

@@ -1,7 +1,5 @@
-use Prim.Native.Nat.{◌-◌}
 use borrow.Author.Rules.{rules}
 use Rattle.arithmetic.proofs.Counting.{counting_turn, loops}
-use Rattle.matrix.specs.Swap.{swap}
 use Rattle.methods.specs.Elimination.{swap_left}
 use Rattle.statements.proofs.swap_left.Goals as goal
 

@@ -3,7 +3,7 @@ use borrow.Author.Tests.{lt-ltb, le-ltb}
 use mathlib.Core.Bool.{Bool}
 use mathlib.Core.List.{List}
 use mathlib.Core.Path.{◌≡◌, refl, sym, ap, ◌∙◌}
-use Prim.Native.Nat.{ℕ, ◌-◌, ◌<◌, zero-le}
+use Prim.Native.Nat.{ℕ, ◌<◌, zero-le}
 use native.Mathlib.Nat.{le_refl}
 use lib.ListN.{set, length-set}
 use lib.Ieee.{Float}
@@ -12,7 +12,7 @@ use Rattle.arithmetic.specs.Loop.{range}
 use Rattle.arithmetic.proofs.LoopLaws.{loop_start, loop_turn, loop_end}
 use Rattle.arithmetic.specs.declared.outcome.Outcome.TheVariants.{Complete, StoredNotFinite}
 use Rattle.matrix.specs.Matrix.{zeros}
-use Rattle.circles.specs.Circles.{sums, overflows, centre, radius, radius_of, set_to, set_each, first_overflow, circles_call, gershgorin_circles}
+use Rattle.circles.specs.Circles.{overflows, centre, radius, radius_of, set_to, set_each, first_overflow, circles_call, gershgorin_circles}
 use Rattle.circles.specs.declared.gershgorin.Sums.{Sums}
 use Rattle.matrix.proofs.CheckLaws.{search_start, search_found, search_turn, search_end}
 use Rattle.circles.proofs.gershgorin.gershgorin_circles_unchecked.Invariants.{overflowing}

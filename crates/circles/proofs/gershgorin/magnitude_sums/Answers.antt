@@ -1,7 +1,7 @@
 use borrow.Author.Rules.{rules}
 use mathlib.Core.List.{List}
 use mathlib.Core.Path.{◌≡◌, refl, sym, ◌∙◌}
-use Prim.Native.Nat.{ℕ, ◌-◌, zero-le}
+use Prim.Native.Nat.{ℕ, zero-le}
 use lib.Ieee.{Float}
 use Rattle.arithmetic.specs.Double.{plus_zero}
 use Rattle.arithmetic.specs.Loop.{range}

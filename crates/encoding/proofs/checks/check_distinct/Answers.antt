@@ -1,7 +1,6 @@
 use borrow.Author.Rules.{rules}
 use borrow.Author.Tests.{lt-ltb, le-ltb}
 use mathlib.Core.Path.{ap, ◌∙◌}
-use Prim.Native.Nat.{◌-◌}
 use native.Mathlib.Nat.{le_refl}
 use Rattle.arithmetic.specs.First.{first_from}
 use Rattle.matrix.proofs.CheckLaws.{search_start, search_found, search_turn, search_end}

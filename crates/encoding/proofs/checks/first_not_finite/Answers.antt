@@ -1,6 +1,5 @@
 use mathlib.Core.Path.{◌≡◌, sym, ap, ◌∙◌}
 use mathlib.Core.Bool.{not}
-use Prim.Native.Nat.{◌-◌}
 use Rattle.arithmetic.specs.First.{first_from}
 use Rattle.matrix.specs.Checks.{not_finite}
 use Rattle.matrix.proofs.CheckLaws.{search_start, search_found, search_turn, search_end}

@@ -1,7 +1,6 @@
 use borrow.Author.Rules.{rules}
 use borrow.Author.Tests.{eq-eqb, ne_eqb}
 use mathlib.Core.Path.{◌≡◌, sym, ◌∙◌}
-use Prim.Native.Nat.{◌-◌}
 use lib.Dec.{eqb}
 use Rattle.matrix.proofs.CheckLaws.{search_found, search_turn, search_end}
 use Rattle.encoding.proofs.ContractNumbers.{numbers-same}

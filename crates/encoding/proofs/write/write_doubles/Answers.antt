@@ -1,5 +1,4 @@
 use borrow.Author.Rules.{rules}
-use Prim.Native.Nat.{◌-◌}
 use native.Mathlib.Omega.{arith}
 use Rattle.arithmetic.proofs.OrderLaws.{finite_not_nan}
 use Rattle.encoding.proofs.WriteLaws.{doubles-turn, doubles-end}

@@ -2,7 +2,6 @@ use borrow.Author.Rules.{rules}
 use borrow.Author.Tests.{eq-eqb, ne_eqb}
 use mathlib.Core.Bool.{true, false, not}
 use mathlib.Core.Path.{◌≡◌, sym, ◌∙◌}
-use Prim.Native.Nat.{◌-◌}
 use lib.Ieee.{Float, binary64, to_bits}
 use Rattle.arithmetic.proofs.OrderLaws.{finite_not_nan}
 use Rattle.matrix.specs.Checks.{same_bits, first_mismatch}

@@ -1,7 +1,6 @@
 use borrow.Author.Rules.{rules}
 use borrow.Author.Tests.{eq-eqb, ne_eqb}
 use mathlib.Core.Path.{sym, ◌∙◌}
-use Prim.Native.Nat.{◌-◌}
 use Rattle.matrix.proofs.CheckLaws.{search_found, search_turn, search_end}
 use Rattle.matrix.proofs.checks.first_same.Goals as goal
 

@@ -1,9 +1,7 @@
 use mathlib.Core.Bool.{not}
 use mathlib.Core.Path.{ap}
 use mathlib.Core.Path.{◌∙◌}
-use Prim.Native.Nat.{◌-◌}
 use borrow.Author.Rules.{rules}
-use lib.Ieee.Scale.{finite}
 use Rattle.arithmetic.proofs.AllLaws.{and_fails, and_passes}
 use Rattle.arithmetic.proofs.Counting.{counting_turn, loops}
 use Rattle.matrix.proofs.checks.list_finite.Goals as goal

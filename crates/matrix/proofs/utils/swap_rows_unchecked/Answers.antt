@@ -1,4 +1,3 @@
-use Prim.Native.Nat.{◌-◌}
 use borrow.Author.Rules.{rules}
 use Rattle.arithmetic.proofs.Counting.{counting_turn, loops}
 use Rattle.matrix.specs.Swap.{swap_in_rows, swap_rows}

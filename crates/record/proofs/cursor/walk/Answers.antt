@@ -1,5 +1,4 @@
 use borrow.Author.Rules.{rules}
-use Prim.Native.Nat.{◌-◌}
 use Rattle.arithmetic.proofs.Counting.{counting_turn, loops}
 use Rattle.record.specs.Cursor.{walk}
 use Rattle.record.proofs.cursor.walk.Goals as goal
