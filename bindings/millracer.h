@@ -1,9 +1,9 @@
 /* The calls of Millracer for C: modified Cholesky factorizations, solving with the factor, their helpers and the square
  * root.
  *
- * `rt staticlib exports` writes target/staticlib/libexports.a, for x86-64 Linux. From the repository's folder:
+ * `tools/build exports` writes crates/exports/out/libexports.a, for x86-64 Linux. From the repository's folder:
  *
- *     gcc -Ibindings -o example bindings/example.c target/staticlib/libexports.a -lm
+ *     gcc -Ibindings -o example bindings/example.c crates/exports/out/libexports.a -lm
  *
  * bindings/example.c factors a matrix, solves with the factor and prints the results.
  *

@@ -3,14 +3,13 @@
 function start() {
     file = dir "/C" files++ ".antt"
     print "pub mod C" (files - 1) >> (dir "/Lib.antt")
-    print "use mathlib.Core.Path.{_≡_, refl}" > file
-    print "use mathlib.Core.List.{List, [], _∷_}" > file
-    print "use lib.Ieee.{add, sub, mul, div, lt, eq, neg, isNan}" > file
+    print "use Rattle.std.specs.Prelude.{◌≡◌, refl, [], ◌∷◌}" > file
+    print "use Rattle.std.specs.Float.Ieee.{add, sub, mul, div, lt, eq, neg, is_nan}" > file
     if (cited == "methods") {
-        print "use Rattle·methods.specs.declared.method.Method.the-variants.{Gmw81, Se}" > file
-        print "use Rattle·methods.specs.declared.schnabel_eskow.Variant.the-variants.{Se90, Se99}" > file
+        print "use Rattle.methods.specs.declared.method.Method.TheVariants.{Gmw81, Se}" > file
+        print "use Rattle.methods.specs.declared.schnabel_eskow.Variant.TheVariants.{Se90, Se99}" > file
     }
-    print "use Rattle·cases·specs.specs.Bits.{answer}" > file
+    print "use Rattle.cases.specs.Bits.{answer}" > file
 }
 
 # fields from .. to, written as a list
@@ -46,7 +45,7 @@ BEGIN {
     name = "c" ((NR - 1) % 20)
     print "" > file
     print name " : answer " (cited == "solve" ? solved() : factored()) > file
-    print "unfolding answer add sub mul div lt eq neg isNan" > file
+    print "unfolding answer add sub mul div lt eq neg is_nan" > file
     print name " = refl" > file
 }
 

@@ -2,12 +2,14 @@
 // Writes a line for each case that differs, and a closing count.
 #![tactic(auto)]
 
-ghost use Rattle.std.specs.Prelude.{◌<◌, ◌≤◌};
+ghost use Rattle.std.specs.Prelude.{◌<◌, ◌≤◌, IfOk};
 ghost use Rattle.record.specs.Record.{Counts};
 
 use answer_record::write::LONGEST_ANSWER;
-use libc::STDOUT_FILENO;
+use reading::read_full;
 use record::answer::answer;
+use std::io::Read;
+use std::{fs, io};
 
 fn whole(x: u8) -> usize
     ensures { result < 256 }
@@ -16,9 +18,9 @@ fn whole(x: u8) -> usize
 }
 
 // A length in two bytes, low byte first; 65,536 where the list ends.
-fn read_length(fd: i32) -> usize {
+fn read_length(list: &mut impl Read) -> usize {
     let mut two = [0u8; 2];
-    let got = io::read_full(fd, &mut two);
+    let got = read_full(list, &mut two);
     if got < 2 {
         return 65536;
     }
@@ -26,59 +28,61 @@ fn read_length(fd: i32) -> usize {
 }
 
 // The next bytes of the list, at the start of buf; none where they don't fit.
-fn read_part(fd: i32, len: usize, buf: &mut [u8]) -> usize
+fn read_part(list: &mut impl Read, len: usize, buf: &mut [u8]) -> usize
     ensures { Counts result buf.new }
 {
     if buf.len() < len {
         return 0;
     }
-    io::read_full(fd, &mut buf[0..len])
+    read_full(list, &mut buf[0..len])
 }
 
 fn same_answer(input: &[u8], wanted: &[u8]) -> bool {
     let mut out = [0; LONGEST_ANSWER];
     let written = answer(input, &mut out);
-    check::same(&out[..written.len], wanted)
+    &out[..written.len] == wanted
 }
 
 // Whether the answer to the next record, of len bytes, is the oracle's.
-fn next_same(fd: i32, len: usize) -> bool {
+fn next_same(list: &mut impl Read, len: usize) -> bool {
     let mut input = [0; 18639];
     let mut wanted = [0; LONGEST_ANSWER];
-    let n = read_part(fd, len, &mut input);
-    let m = read_part(fd, read_length(fd), &mut wanted);
+    let n = read_part(list, len, &mut input);
+    let wanted_len = read_length(list);
+    let m = read_part(list, wanted_len, &mut wanted);
     same_answer(&input[..n], &wanted[..m])
 }
 
-fn print_count(n: u64, what: &[u8]) {
-    io::print_decimal(STDOUT_FILENO, n);
-    io::write_all(STDOUT_FILENO, what);
-}
-
 // Names case k unless its answer is the oracle's; 1 for each such.
-fn report(k: u64, same: bool) -> u64
-    ensures { result ≤ 1 }
+fn report(rt: &impl Print, k: u64, same: bool) -> io::Result<u64>
+    ensures { IfOk result (λ n. n ≤ 1) }
 {
     if same {
-        return 0;
+        return Ok(0);
     }
-    print_count(k, b" differs\n");
-    1
+    println!(rt; "{k} differs")?;
+    Ok(1)
 }
 
-fn main() {
-    let fd = os::open_read(b"cases.bin");
+// Runs the list's cases, and says how many there are and how many differ.
+fn replay(rt: &impl Print, list: &mut impl Read) -> io::Result<()> {
     let mut cases = 0;
     let mut different = 0;
     for k in 0..65536u64 {
-        let len = read_length(fd);
+        let len = read_length(list);
         if len == 65536 {
             break;
         }
-        different = different + report(k, next_same(fd, len));
+        different += report(rt, k, next_same(list, len))?;
         cases = k + 1;
     }
-    libc::close(fd);
-    print_count(cases, b" cases, ");
-    print_count(different, b" different\n");
+    println!(rt; "{cases} cases, {different} different")
+}
+
+fn main(rt: HostRuntime) -> io::Result<()> {
+    match fs::open(&rt, "cases.bin") {
+        Ok(mut list) => replay(&rt, &mut list),
+        // A list that isn't there has no case.
+        Err(_) => replay(&rt, &mut io::empty()),
+    }
 }

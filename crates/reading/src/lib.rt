@@ -1,0 +1,26 @@
+// Reading into a buffer.
+#![tactic(auto)]
+
+ghost use Rattle.std.specs.Prelude.{◌≡◌, ◌≤◌, length, take};
+
+use std::io::Read;
+
+// Reads until buf is full, the input ends or a read fails, and returns how many bytes it put at the start of buf.
+pub fn read_full(input: &mut impl Read, buf: &mut [u8]) -> usize
+    ensures within { result ≤ length buf.new }
+    ensures counts { result ≡ length (take result buf.new) }
+{
+    let mut done = 0;
+    while done < buf.len() {
+        match input.read(&mut buf[done..]) {
+            Ok(n) => {
+                if n == 0 {
+                    break;
+                }
+                done += n;
+            }
+            Err(_) => break,
+        }
+    }
+    done
+}
