@@ -14,7 +14,6 @@ use Rattle.arithmetic.proofs.OutcomeLaws.{refuse-complete}
 use Rattle.arithmetic.specs.declared.outcome.Outcome.TheVariants.{MalformedRecord}
 use Rattle.matrix.proofs.CellLaws.{square-small}
 use Rattle.matrix.specs.Plain.{AllBelow}
-use Rattle.arithmetic.proofs.Cases.{is}
 use Rattle.matrix.proofs.CheckLaws.{Accepted, both_accepted}
 use Rattle.encoding.specs.Bytes.{low_first, bytes}
 use Rattle.answer_record.specs.Field.{field}

@@ -4,7 +4,6 @@
 -- `solved_byte_calls` and `numbered_solved_byte_calls`.
 use Rattle.std.specs.Prelude.{◌≡◌, List, ℕ, ◌*◌, ◌≤◌, length, Float}
 use Rattle.arithmetic.specs.DoubleList.{AllDoubles}
-use Rattle.arithmetic.specs.Outcome.{complete}
 use Rattle.arithmetic.specs.declared.outcome.Outcome.TheVariants.{Complete}
 use Rattle.matrix.specs.Checks.{Distinct}
 use Rattle.matrix.specs.Plain.{AllBelow}
