@@ -4,7 +4,7 @@ ghost use Rattle.record.specs.Record.{record_call};
 ghost use Rattle.exports.specs.Exports.{written, record_export};
 
 use crate::refusal::Refusal;
-use record::answer::{RecordAnswer, answer as answer_record};
+use record::answer::{RecordAnswer, answer as answer_to};
 
 // How the call ended, and the answer's length.
 #[repr(C)]
@@ -31,5 +31,5 @@ impl Written {
 pub extern "C" fn millracer_record(b: &[u8], answer: &mut [u8]) -> Written
     ensures { record { written = result; answer = answer.new } ≡ record_export (record_call b.now answer.old) }
 {
-    Written::of(answer_record(b, answer))
+    Written::of(answer_to(b, answer))
 }
