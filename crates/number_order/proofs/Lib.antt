@@ -1,0 +1,5 @@
+pub mod BetweenLaws
+pub mod Keys
+pub mod NumberOrders
+pub mod ZeroAfter
+pub mod NumberSums
