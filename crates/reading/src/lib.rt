@@ -2,13 +2,15 @@
 #![tactic(auto)]
 
 ghost use Rattle.std.specs.Prelude.{◌≡◌, ◌≤◌, length, take};
+ghost use Rattle.std.specs.Io.KnownBytes.{Consumes};
 
 use std::io::Read;
 
 // Reads until buf is full, the input ends or a read fails, and returns how many bytes it put at the start of buf.
-pub fn read_full(input: &mut impl Read, buf: &mut [u8]) -> usize
+pub fn read_full<R: Read>(input: &mut R, buf: &mut [u8]) -> usize
     ensures within { result ≤ length buf.new }
     ensures counts { result ≡ length (take result buf.new) }
+    ensures bytes { Consumes (R.remaining input.old) (R.remaining input.new) (take result buf.new) }
 {
     let mut done = 0;
     while done < buf.len() {
