@@ -7,7 +7,7 @@ use native.Mathlib.Omega.{arith}
 use lib.ListN.{length, length-append}
 use lib.Ieee.{Float}
 use Rattle.arithmetic.specs.Outcome.{number, place, complete}
-use Rattle.arithmetic.specs.declared.outcome.Place.{Place}
+use Rattle.arithmetic.specs.declared.refusal.Place.{Place}
 use Rattle.methods.specs.Result.{Result}
 use Rattle.methods.specs.declared.decomposition.Decomposition.{Decomposition}
 use Rattle.encoding.specs.Bytes.{bytes, double_bytes}

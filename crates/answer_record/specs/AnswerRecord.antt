@@ -1,11 +1,11 @@
 -- What bytes an answer is.
 use Rattle.std.specs.Prelude.{List, [], ◌∷◌, ◌++◌, cond, ℕ, Float}
 use Rattle.arithmetic.specs.Outcome.{number, place, complete}
-use Rattle.arithmetic.specs.declared.outcome.Place.{Place}
+use Rattle.arithmetic.specs.declared.refusal.Place.{Place}
 use Rattle.methods.specs.Result.{Result}
 use Rattle.methods.specs.declared.decomposition.Decomposition.{Decomposition}
-use Rattle.methods.specs.declared.decomposition.Mark.{Mark}
-use Rattle.methods.specs.declared.decomposition.Mark.TheVariants.{Never, Step}
+use Rattle.methods.specs.Marks.{Mark}
+use Rattle.std.specs.Prelude.{None, Some}
 use Rattle.encoding.specs.Bytes.{bytes, double_bytes}
 use Rattle.answer_record.specs.Field.{field}
 
@@ -15,8 +15,8 @@ longest_answer = 18889
 
 -- a step, FF for none
 abbrev pub step_byte : Mark → ℕ
-step_byte Never = 0xff
-step_byte (Step j) = j
+step_byte None = 0xff
+step_byte (Some j) = j
 
 -- 11 refusal number or 00, 12 tied step, 13 phase-two step
 unfoldable pub marks_fields : Decomposition → List ℕ

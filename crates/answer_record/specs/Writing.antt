@@ -1,13 +1,13 @@
 -- What fits an answer record.
 use Rattle.std.specs.Prelude.{◌≡◌, List, ℕ, ◌≤◌, ◌<◌, length, Float}
 use Rattle.arithmetic.specs.Outcome.{place}
-use Rattle.arithmetic.specs.declared.outcome.Place.{Place}
+use Rattle.arithmetic.specs.declared.refusal.Place.{Place}
 use Rattle.matrix.specs.Plain.{AllBelow}
 use Rattle.encoding.specs.Writing.{over, EachFinite}
 use Rattle.methods.specs.Result.{Result}
 use Rattle.methods.specs.declared.decomposition.Decomposition.{Decomposition}
-use Rattle.methods.specs.declared.decomposition.Mark.{Mark}
-use Rattle.methods.specs.declared.decomposition.Mark.TheVariants.{Step}
+use Rattle.methods.specs.Marks.{Mark}
+use Rattle.std.specs.Prelude.{Some}
 
 -- xs now stands at the front of the buffer, and len is its length
 abbrev pub Front : List ℕ → List ℕ → List ℕ → ℕ → Type 0
@@ -15,7 +15,7 @@ Front xs out out' len = (out' ≡ over out 0 xs) × (len ≡ length xs)
 
 -- a step that one byte holds beside FF
 abbrev pub StepFits : Mark → Type 0
-StepFits m = (j : ℕ) → m ≡ Step j → j < 0xff
+StepFits m = (j : ℕ) → m ≡ Some j → j < 0xff
 
 abbrev pub MarksFit : Decomposition → Type 0
 MarksFit d = StepFits d.tied × StepFits d.phase2

@@ -8,9 +8,9 @@ ghost use Rattle.answer_record.specs.AnswerRecord.{longest_answer, step_byte, ma
 ghost use Rattle.encoding.specs.Writing.{over, Wrote, EachFinite};
 ghost use Rattle.answer_record.specs.Writing.{Front, StepFits, MarksFit, PlaceFits, Fits, result_with};
 
-use arithmetic::outcome::Place;
+use arithmetic::refusal::{Place, number};
 use encoding::write::{write_byte, write_doubles, write_order};
-use methods::decomposition::{Decomposition, Mark};
+use methods::decomposition::Decomposition;
 
 // A buffer of this length holds every answer.
 pub const LONGEST_ANSWER: usize = 18889;
@@ -20,18 +20,20 @@ fn write_head(out: &mut [u8], at: usize, tag: u8, len: usize) -> usize
     requires { (at + 3 ≤ length out.old) × (len < 65536) }
     ensures { (out.new ≡ over out.old at (tag ∷ bytes 2 len)) × (result ≡ at + 3) }
 {
-    let low = write_byte(out, at, tag);
-    let high = write_byte(out, low, (len % 256) as u8);
-    write_byte(out, high, (len / 256) as u8)
+    let [low, high] = (len as u16).to_le_bytes();
+    let next = write_byte(out, at, tag);
+    let last = write_byte(out, next, low);
+    write_byte(out, last, high)
 }
 
-fn step_byte(m: Mark) -> u8
+// 255 for none, by the record format.
+fn step_byte(m: Option<usize>) -> u8
     requires { StepFits m }
     ensures { result ≡ step_byte m }
 {
     match m {
-        Mark::Never => 255,
-        Mark::Step(j) => j as u8,
+        None => 255,
+        Some(j) => j as u8,
     }
 }
 
@@ -67,12 +69,9 @@ fn write_marks(out: &mut [u8], d: Decomposition) -> usize
     requires marks_fit { MarksFit d }
     ensures { (out.new ≡ over out.old 0 (marks_fields d)) × (result ≡ 12) }
 {
-    let outcome = d.outcome;
-    let tied = d.tied;
-    let phase2 = d.phase2;
-    let next = write_byte_field(out, 0, 0x11, outcome.number());
-    let last = write_byte_field(out, next, 0x12, step_byte(tied));
-    write_byte_field(out, last, 0x13, step_byte(phase2))
+    let next = write_byte_field(out, 0, 0x11, number(d.outcome));
+    let last = write_byte_field(out, next, 0x12, step_byte(d.tied));
+    write_byte_field(out, last, 0x13, step_byte(d.phase2))
 }
 
 fn write_factor(out: &mut [u8], at: usize, p: &[usize], e: &[f64], l: &[f64]) -> usize
@@ -113,6 +112,5 @@ pub fn write_refusal(out: &mut [u8], d: Decomposition) -> usize
     ensures { Front (answer_record (result_with d [] [] [])) out.old out.new result }
 {
     let next = write_marks(out, d);
-    let outcome = d.outcome;
-    write_place(out, next, outcome.place())
+    write_place(out, next, Place::from(d.outcome.unwrap_err()))
 }

@@ -7,7 +7,7 @@ use borrow.Author.Rules.{rules}
 use Rattle.arithmetic.specs.All.{all}
 use Rattle.arithmetic.proofs.AllLaws.{and_test, all_end}
 use Rattle.arithmetic.specs.Loop.{range}
-use Rattle.arithmetic.proofs.LoopLaws.{loop_start, loop_turn, loop_end}
+use Rattle.arithmetic.proofs.LoopLaws.{loop_start, loop_turn, loop_end, loop_rest}
 
 -- s is what the turns before i made of s₀
 pub record Counting {S : Type 0} (a n i : ℕ) (body : ℕ → S → S) (s₀ s : S) : Type 0 where
@@ -23,6 +23,12 @@ counting_turn {S} {a} {n} {i} {body} {s₀} {s} {s'} c h e = record { low = omeg
 
 pub counting_end : {S : Type 0} {a n i : ℕ} {body : ℕ → S → S} {s₀ s : S} → Counting a n i body s₀ s → n ≤ i → s ≡ range a n body s₀
 counting_end {S} {a} {n} {i} {body} {s₀} {s} c h = loop_end a i n body s₀ s c.high h c.is
+
+-- .. of a loop left in turn i, where the turns after it would change nothing
+pub counting_left : {S : Type 0} {a n i : ℕ} {body : ℕ → S → S} {s₀ s s' : S} → Counting a n i body s₀ s → i < n → s' ≡ body i s
+    → ((k : ℕ) → body k s' ≡ s') → s' ≡ range a n body s₀
+counting_left {S} {a} {n} {i} {body} {s₀} {s} {s'} c h e stays =
+    let t = counting_turn c h e in loop_rest a (i + 1) n body s₀ s' t.low t.high t.is (λ k p q. stays k)
 
 -- .. of a loop that tests
 pub counting_all : {a n i : ℕ} {test : ℕ → Bool} {ok : Bool} → Counting a n i (and_test test) true ok → n ≤ i → ok ≡ all a n test

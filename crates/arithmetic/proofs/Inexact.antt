@@ -1,8 +1,9 @@
 -- The inexact flag: it is whether anything was cut off (`cut_off`), and no double's square is the operand exactly where it is true
 -- (`inexact-roots`).
 use mathlib.Core.Path.{◌≡◌, refl, sym, ap, ◌∙◌, subst}
-use mathlib.Core.Bool.{Bool, true, false, not, ◌&&◌, false≢true}
+use mathlib.Core.Bool.{Bool, true, false, not, ◌&&◌, false≢true, true≢false}
 use mathlib.Core.Logic.{inl, inr}
+use Rattle.std.specs.Prelude.{Ok, Err}
 use Prim.Native.Nat.{ℕ, zero, suc, ◌+◌, ◌*◌, ◌/◌, ◌%◌, ◌^◌, ◌≤◌, ◌<◌}
 use native.Mathlib.Omega.{arith}
 use native.Mathlib.Nat.{le_antisymm, lt_of_mul-lt-mul_right, mul_assoc, mul_comm, pow-suc}
@@ -13,11 +14,12 @@ use lib.Ieee.Bits.{is_true}
 use lib.Ieee.Scale.{finite}
 use lib.Ieee.Positive.{positive}
 use Rattle.arithmetic.specs.Double.{plus_zero}
-use Rattle.arithmetic.specs.Outcome.{complete, refuse}
-use Rattle.arithmetic.specs.Sqrt.{magnitude, sqrt, inexact, flagged, sqrt_checks, sqrt_call}
+use Rattle.arithmetic.specs.Outcome.{Outcome, complete, refuse, answer, ended, value_or}
+use Rattle.arithmetic.specs.Sqrt.{magnitude, sqrt, inexact, flagged, sqrt_checks, sqrt_call, no_root}
 use Rattle.arithmetic.specs.Nearest.{NotNegative}
-use Rattle.arithmetic.specs.Inexact.{ExactRoot, InexactTheorem, CutOffTheorem}
-use Rattle.arithmetic.specs.declared.outcome.Outcome.TheVariants.{NotFinite, StoredNotFinite}
+use Rattle.arithmetic.specs.Inexact.{ExactRoot, handed_back, InexactTheorem, CutOffTheorem}
+use Rattle.arithmetic.specs.declared.refusal.Refusal.TheVariants.{NotFinite, StoredNotFinite}
+use Rattle.arithmetic.specs.declared.sqrt.Rounded.{Rounded}
 use Rattle.arithmetic.specs.InfinitelyPrecise.{WholeRoot}
 use Rattle.arithmetic.proofs.WholeRoot.{less_root}
 use Rattle.arithmetic.proofs.Operand.{Zero, zero_of, Negative, negative_inf, negative_of, fails}
@@ -134,26 +136,31 @@ square-exact x y h Y =
 accepted : (x : Float) → T (fits binary64 x) → complete (sqrt_checks x) ≡ true → NotNegative x
 accepted x f h =
     let c = then_complete (refuse (not (finite x)) (NotFinite 0 0)) (refuse (lt x plus_zero) (StoredNotFinite 0)) h in
-    record { double = f; number = not-false _ (refuse-complete (not (finite x)) (NotFinite 0 0) refl c.0); sign = refuse-complete (lt x plus_zero) (StoredNotFinite 0) refl c.1 }
+    record { double = f; number = not-false _ (refuse-complete (not (finite x)) (NotFinite 0 0) c.0); sign = refuse-complete (lt x plus_zero) (StoredNotFinite 0) c.1 }
 
-call-value : (x : Float) → complete (sqrt_checks x) ≡ true → (sqrt_call x).value ≡ sqrt x
-unfolding sqrt_call
-call-value x h = rw h
+-- an accepted operand's root is handed back, and nothing beside a refusal
+handed-root : (x : Float) → complete (ended (sqrt_call x)) ≡ true → (complete (sqrt_checks x) ≡ true) × (handed_back x ≡ flagged x)
+handed-root x = go (sqrt_checks x)
+  where
+    go : (o : Outcome) → complete (ended (answer o (flagged x))) ≡ true → (complete o ≡ true) × (value_or no_root (answer o (flagged x)) ≡ flagged x)
+    go (Ok _) h = (refl, refl)
+    go (Err refusal) h = absurd (false≢true h)
 
-call-flag : (x : Float) → complete (sqrt_checks x) ≡ true → (sqrt_call x).inexact ≡ inexact x
-unfolding sqrt_call
-call-flag x h = rw h
-
-call-refused : (x : Float) → complete (sqrt_checks x) ≡ false → (sqrt_call x).inexact ≡ false
-unfolding sqrt_call
-call-refused x h = rw h
+handed-none : (x : Float) → complete (ended (sqrt_call x)) ≡ false → handed_back x ≡ no_root
+handed-none x = go (sqrt_checks x)
+  where
+    go : (o : Outcome) → complete (ended (answer o (flagged x))) ≡ false → value_or no_root (answer o (flagged x)) ≡ no_root
+    go (Ok _) h = absurd (true≢false h)
+    go (Err refusal) h = refl
 
 pub inexact-roots : InexactTheorem
-unfolding sqrt_call
 inexact-roots x f = record {
-  inexact = λ a t y Y. false≢true (sym (square-exact x y (accepted x f a) Y) ∙ sym (call-flag x a) ∙ t);
+  inexact = λ a t y Y.
+      let r = handed-root x a in
+      false≢true (sym (square-exact x y (accepted x f r.0) Y) ∙ sym (ap (λ (z : Rounded). z.inexact) r.1) ∙ t);
   exact = λ a t.
-      let h = accepted x f a in
-      subst (ExactRoot x) (sym (call-value x a)) (record { double = sqrt-fits x f; number = (sqrt-nearest x h).result.number; square = exact-square x h (sym (call-flag x a) ∙ t) });
-  refused = λ a. call-refused x a;
+      let r = handed-root x a in
+      let h = accepted x f r.0 in
+      subst (ExactRoot x) (sym (ap (λ (z : Rounded). z.value) r.1)) (record { double = sqrt-fits x f; number = (sqrt-nearest x h).result.number; square = exact-square x h (sym (ap (λ (z : Rounded). z.inexact) r.1) ∙ t) });
+  refused = λ a. ap (λ (z : Rounded). z.inexact) (handed-none x a);
 }

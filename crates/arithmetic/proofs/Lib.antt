@@ -26,3 +26,4 @@ pub mod Difference
 pub mod Zeros
 pub mod OneTerm
 pub mod Counting
+pub mod Chains

@@ -4,9 +4,10 @@ use Rattle.std.specs.Float.{binary64}
 use Rattle.std.specs.Float.Ieee.{fits}
 use Rattle.std.specs.Float.Ieee.Scale.{finite}
 use Rattle.std.specs.Float.Ieee.Positive.{positive}
-use Rattle.arithmetic.specs.Outcome.{complete}
+use Rattle.arithmetic.specs.Outcome.{complete, ended, value_or}
+use Rattle.arithmetic.specs.declared.sqrt.Rounded.{Rounded}
 use Rattle.arithmetic.specs.InfinitelyPrecise.{WholeRoot}
-use Rattle.arithmetic.specs.Sqrt.{magnitude, inexact, sqrt_call}
+use Rattle.arithmetic.specs.Sqrt.{magnitude, inexact, sqrt_call, no_root}
 
 -- y is a finite double, of either sign, and its exact square, unrounded, is x. In units of 2^-1074 the square of y is
 -- magnitude y * magnitude y / 2^1074.
@@ -15,12 +16,16 @@ pub record ExactRoot (x y : Float) : Type 0 where
   pub number : finite y ≡ true
   pub square : magnitude y * magnitude y ≡ magnitude x * 2 ^ 1074
 
+-- what is handed back, beside a refusal too
+abbrev pub handed_back : Float → Rounded
+handed_back x = value_or no_root (sqrt_call x)
+
 -- For an accepted operand the flag says that no double has it as its exact square; where it is false the root handed back is one that has.
 -- Beside a refusal it is false.
 pub record InexactCall (x : Float) : Type 0 where
-  pub inexact : complete (sqrt_call x).outcome ≡ true → (sqrt_call x).inexact ≡ true → (y : Float) → ExactRoot x y → ⊥
-  pub exact : complete (sqrt_call x).outcome ≡ true → (sqrt_call x).inexact ≡ false → ExactRoot x (sqrt_call x).value
-  pub refused : complete (sqrt_call x).outcome ≡ false → (sqrt_call x).inexact ≡ false
+  pub inexact : complete (ended (sqrt_call x)) ≡ true → (handed_back x).inexact ≡ true → (y : Float) → ExactRoot x y → ⊥
+  pub exact : complete (ended (sqrt_call x)) ≡ true → (handed_back x).inexact ≡ false → ExactRoot x (handed_back x).value
+  pub refused : complete (ended (sqrt_call x)) ≡ false → (handed_back x).inexact ≡ false
 
 -- for every double
 abbrev pub InexactTheorem : Type 0

@@ -1,26 +1,35 @@
 -- The number and place of each way a call can end: document 01, 'Refusals, in checking order'; 10 to 15 are document 02's, N1 to N3.
-use Rattle.std.specs.Prelude.{ℕ, Bool, cond, eqb}
-use Rattle.arithmetic.specs.declared.outcome.Outcome.{Outcome}
-use Rattle.arithmetic.specs.declared.outcome.Outcome.TheVariants.{Complete, MalformedRecord, UnknownMethod, SizeOutOfRange, MatrixLength, BufferLength, IndexOutOfRange, NotFinite, Unsymmetric, StoredNotFinite, FieldPastEnd, TagNotDue, NumbersLength, NumberRepeated, ListLength, ZeroDiagonal}
-use Rattle.arithmetic.specs.declared.outcome.Place.{Place}
+use Rattle.std.specs.Prelude.{ℕ, Bool, cond, Result, Ok, Err}
+use Rattle.std.specs.Result.{is_ok}
+use Rattle.arithmetic.specs.declared.refusal.Refusal.{Refusal}
+use Rattle.arithmetic.specs.declared.refusal.Refusal.TheVariants.{MalformedRecord, UnknownMethod, SizeOutOfRange, MatrixLength, BufferLength, IndexOutOfRange, NotFinite, Unsymmetric, StoredNotFinite, FieldPastEnd, TagNotDue, NumbersLength, NumberRepeated, ListLength, ZeroDiagonal}
+use Rattle.arithmetic.specs.declared.refusal.Place.{Place}
 
+-- complete, or refused
+abbrev pub Outcome : Type 0
+Outcome = Result Unit Refusal
+
+abbrev pub number_of : Refusal → ℕ
+number_of MalformedRecord = 1
+number_of UnknownMethod = 2
+number_of SizeOutOfRange = 3
+number_of MatrixLength = 4
+number_of BufferLength = 5
+number_of (IndexOutOfRange position) = 6
+number_of (NotFinite row column) = 7
+number_of (Unsymmetric row column) = 8
+number_of (StoredNotFinite step) = 9
+number_of (FieldPastEnd field) = 10
+number_of (TagNotDue field) = 11
+number_of NumbersLength = 12
+number_of (NumberRepeated position) = 13
+number_of ListLength = 14
+number_of (ZeroDiagonal row) = 15
+
+-- 0 for a complete call
 abbrev pub number : Outcome → ℕ
-number Complete = 0
-number MalformedRecord = 1
-number UnknownMethod = 2
-number SizeOutOfRange = 3
-number MatrixLength = 4
-number BufferLength = 5
-number (IndexOutOfRange position) = 6
-number (NotFinite row column) = 7
-number (Unsymmetric row column) = 8
-number (StoredNotFinite step) = 9
-number (FieldPastEnd field) = 10
-number (TagNotDue field) = 11
-number NumbersLength = 12
-number (NumberRepeated position) = 13
-number ListLength = 14
-number (ZeroDiagonal row) = 15
+number (Ok _) = 0
+number (Err refusal) = number_of refusal
 
 -- a position, row, step or field
 abbrev pub alone : ℕ → Place
@@ -30,32 +39,51 @@ alone row = record { row = row; column = 0 }
 abbrev pub nowhere : Place
 nowhere = alone 0
 
+abbrev pub place_of : Refusal → Place
+place_of MalformedRecord = nowhere
+place_of UnknownMethod = nowhere
+place_of SizeOutOfRange = nowhere
+place_of MatrixLength = nowhere
+place_of BufferLength = nowhere
+place_of (IndexOutOfRange position) = alone position
+place_of (NotFinite row column) = record { row = row; column = column }
+place_of (Unsymmetric row column) = record { row = row; column = column }
+place_of (StoredNotFinite step) = alone step
+place_of (FieldPastEnd field) = alone field
+place_of (TagNotDue field) = alone field
+place_of NumbersLength = nowhere
+place_of (NumberRepeated position) = alone position
+place_of ListLength = nowhere
+place_of (ZeroDiagonal row) = alone row
+
 abbrev pub place : Outcome → Place
-place Complete = nowhere
-place MalformedRecord = nowhere
-place UnknownMethod = nowhere
-place SizeOutOfRange = nowhere
-place MatrixLength = nowhere
-place BufferLength = nowhere
-place (IndexOutOfRange position) = alone position
-place (NotFinite row column) = record { row = row; column = column }
-place (Unsymmetric row column) = record { row = row; column = column }
-place (StoredNotFinite step) = alone step
-place (FieldPastEnd field) = alone field
-place (TagNotDue field) = alone field
-place NumbersLength = nowhere
-place (NumberRepeated position) = alone position
-place ListLength = nowhere
-place (ZeroDiagonal row) = alone row
+place (Ok _) = nowhere
+place (Err refusal) = place_of refusal
 
 -- ---- checks: each is an outcome, and the first that fails decides
 abbrev pub complete : Outcome → Bool
-complete o = eqb (number o) 0
+complete o = is_ok o
 
 -- a check that refuses where `bad` holds
-abbrev pub refuse : Bool → Outcome → Outcome
-refuse bad refusal = cond bad refusal Complete
+abbrev pub refuse : Bool → Refusal → Outcome
+refuse bad refusal = cond bad (Err refusal) (Ok tt)
 
 infixl 1 ◌then◌
-unfoldable pub ◌then◌ : Outcome → Outcome → Outcome
-o then rest = cond (complete o) rest o
+abbrev pub ◌then◌ : Outcome → Outcome → Outcome
+Ok _ then rest = rest
+Err refusal then rest = Err refusal
+
+-- ---- calls that hand back a value: the first refusal of the checks, or the value
+abbrev pub answer : {A : Type 0} → Outcome → A → Result A Refusal
+answer (Ok _) value = Ok value
+answer (Err refusal) value = Err refusal
+
+-- how such a call ended
+abbrev pub ended : {A : Type 0} → Result A Refusal → Outcome
+ended (Ok value) = Ok tt
+ended (Err refusal) = Err refusal
+
+-- the value, or this one beside a refusal
+abbrev pub value_or : {A : Type 0} → A → Result A Refusal → A
+value_or none (Ok value) = value
+value_or none (Err refusal) = none

@@ -1,16 +1,15 @@
 -- The square root of a double, by whole numbers (document 01, 'Arithmetic').
 -- A unit is the smallest positive double, 2^-1074: every finite double's magnitude is a whole number of units.
-use Rattle.std.specs.Prelude.{ℕ, zero, suc, ◌+◌, ◌*◌, ◌/◌, ◌^◌, Bool, true, false, not, cond, ◌&&◌, ℤ, leb, ltb, eqb, Float}
+use Rattle.std.specs.Prelude.{ℕ, zero, suc, ◌+◌, ◌*◌, ◌/◌, ◌^◌, Bool, true, false, not, cond, ◌&&◌, ℤ, leb, ltb, eqb, Float, Result}
 use Rattle.std.specs.Float.{nan, inf, fin, binary64}
 use Rattle.std.specs.Float.Ieee.{up, down, size, round, lt}
 use Rattle.std.specs.Float.Ieee.Scale.{finite}
 use Rattle.std.specs.Float.Ieee.Positive.{positive}
 use Rattle.arithmetic.specs.Double.{plus_zero}
-use Rattle.arithmetic.specs.Outcome.{complete, refuse, ◌then◌}
-use Rattle.arithmetic.specs.declared.outcome.Outcome.{Outcome}
-use Rattle.arithmetic.specs.declared.outcome.Outcome.TheVariants.{NotFinite, StoredNotFinite}
+use Rattle.arithmetic.specs.Outcome.{Outcome, refuse, ◌then◌, answer}
+use Rattle.arithmetic.specs.declared.refusal.Refusal.{Refusal}
+use Rattle.arithmetic.specs.declared.refusal.Refusal.TheVariants.{NotFinite, StoredNotFinite}
 use Rattle.arithmetic.specs.declared.sqrt.Rounded.{Rounded}
-use Rattle.arithmetic.specs.declared.sqrt.SqrtAnswer.{SqrtAnswer}
 
 -- the whole part of the root of n, for an n of at most 2 * k binary digits: two digits of n for each digit of the root
 unfoldable pub isqrt_of : ℕ → ℕ → ℕ
@@ -62,11 +61,13 @@ inexact x = positive x && not (eqb (magnitude (sqrt x) * magnitude (sqrt x)) (ma
 abbrev pub flagged : Float → Rounded
 flagged x = record { value = sqrt x; inexact = inexact x }
 
--- the root as a call of its own: 7 for an operand that is not finite, 9 at step 0 for a negative number, the value then +0.0 and the flag false
+-- the root as a call of its own: 7 for an operand that is not finite, 9 at step 0 for a negative number
 abbrev pub sqrt_checks : Float → Outcome
 sqrt_checks x = refuse (not (finite x)) (NotFinite 0 0) then refuse (lt x plus_zero) (StoredNotFinite 0)
 
-unfoldable pub sqrt_call : Float → SqrtAnswer
-unfolding sqrt inexact lt
-sqrt_call x = let accepted = complete (sqrt_checks x) in
-    record { outcome = sqrt_checks x; value = cond accepted (sqrt x) plus_zero; inexact = accepted && inexact x }
+abbrev pub sqrt_call : Float → Result Rounded Refusal
+sqrt_call x = answer (sqrt_checks x) (flagged x)
+
+-- what the exported call hands back beside a refusal: +0.0, and the flag false
+abbrev pub no_root : Rounded
+no_root = record { value = plus_zero; inexact = false }

@@ -8,6 +8,31 @@ pub struct Parts {
     pub rest: u64,
 }
 
+impl Parts {
+    // From the root of a number to the root of that number * b * b: twice as many digits, by one division.
+    fn extend(self, b: u64) -> Parts
+        requires { Digits self.root self.rest b }
+        ensures { Remainder ((self.root * self.root + self.rest) * (b * b)) result.root result.rest }
+    {
+        let Parts { root: s, rest: d } = self;
+        let n = d * b;
+        let q = n / (2 * s);
+        let u = (n % (2 * s)) * b;
+        let r = s * b + q;
+        let sq = q * q;
+        if sq <= u {
+            return Parts {
+                root: r,
+                rest: u - sq,
+            };
+        }
+        Parts {
+            root: r - 1,
+            rest: u + (2 * r - 1) - sq,
+        }
+    }
+}
+
 // A guess at the root of a, within a part in a hundred: a straight line below 2^53, and another above.
 fn line(a: u64) -> u64
     requires { a < 2 ^ 54 }
@@ -25,11 +50,7 @@ fn guess(a: u64) -> u64
 {
     let s = line(a);
     let t = (s + a / s) / 2;
-    let g = (t + a / t) / 2;
-    if 0x800_0000 <= g {
-        return 0x7ff_ffff;
-    }
-    g
+    ((t + a / t) / 2).min(0x7ff_ffff)
 }
 
 // The root of a, from any guess.
@@ -49,33 +70,10 @@ fn settle(a: u64, g: u64) -> Parts
     Parts { root: s, rest: d }
 }
 
-// From the root of a number to the root of that number * b * b: twice as many digits, by one division.
-fn extend(s: u64, d: u64, b: u64) -> Parts
-    requires { Digits s d b }
-    ensures { Remainder ((s * s + d) * (b * b)) result.root result.rest }
-{
-    let n = d * b;
-    let q = n / (2 * s);
-    let u = (n % (2 * s)) * b;
-    let r = s * b + q;
-    let sq = q * q;
-    if sq <= u {
-        return Parts {
-            root: r,
-            rest: u - sq,
-        };
-    }
-    Parts {
-        root: r - 1,
-        rest: u + (2 * r - 1) - sq,
-    }
-}
-
 // The root of a * 2^54.
 pub fn long_root(a: u64) -> Parts
     requires { (2 ^ 52 ≤ a) × (a < 2 ^ 54) }
     ensures { Remainder (a * 2 ^ 54) result.root result.rest }
 {
-    let p = settle(a, guess(a));
-    extend(p.root, p.rest, 0x800_0000)
+    settle(a, guess(a)).extend(0x800_0000)
 }

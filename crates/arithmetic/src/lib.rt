@@ -3,5 +3,5 @@
 
 pub mod double;
 mod isqrt;
-pub mod outcome;
+pub mod refusal;
 pub mod sqrt;

@@ -3,14 +3,14 @@
 // Beside the root stands the inexact flag (7.6): whether rounding changed it.
 ghost use Rattle.std.specs.Prelude.{◌≡◌, ◌^◌, ◌≤◌, ◌<◌, T};
 ghost use Rattle.std.specs.Float.Ieee.Positive.{positive};
-ghost use Rattle.arithmetic.specs.Sqrt.{magnitude, nearest_to, sqrt, flagged, sqrt_call};
+ghost use Rattle.arithmetic.specs.Sqrt.{magnitude, nearest_to, sqrt, flagged, sqrt_checks, sqrt_call};
 ghost use Rattle.arithmetic.specs.Nearest.{NotNegative};
 ghost use Rattle.arithmetic.specs.SqrtStages.{Significand};
 ghost use Rattle.arithmetic.specs.InfinitelyPrecise.{WholeRoot};
 
 use crate::double::finite;
 use crate::isqrt::long_root;
-use crate::outcome::Outcome;
+use crate::refusal::Refusal;
 
 // A positive number: significand * 2^exponent units of 2^-1074.
 #[derive(Clone, Copy)]
@@ -127,35 +127,23 @@ pub fn sqrt_unchecked(x: f64) -> f64
     r.value
 }
 
-// The root as a call of its own, and how the call ended. Beside a refusal the value is zero and the flag false.
-#[derive(Clone, Copy)]
-pub struct SqrtAnswer {
-    pub outcome: Outcome,
-    pub value: f64,
-    pub inexact: bool,
-}
-
-pub fn sqrt(x: f64) -> SqrtAnswer
-    ensures { result ≡ sqrt_call x }
+// 7, then 9 at step 0.
+fn check_operand(x: f64) -> Result<(), Refusal>
+    ensures { result ≡ sqrt_checks x }
 {
     if !finite(x) {
-        return SqrtAnswer {
-            outcome: Outcome::NotFinite { row: 0, column: 0 },
-            value: 0.0,
-            inexact: false,
-        };
+        return Err(Refusal::NotFinite { row: 0, column: 0 });
     }
     if x < 0.0 {
-        return SqrtAnswer {
-            outcome: Outcome::StoredNotFinite { step: 0 },
-            value: 0.0,
-            inexact: false,
-        };
+        return Err(Refusal::StoredNotFinite { step: 0 });
     }
-    let r = root(x);
-    SqrtAnswer {
-        outcome: Outcome::Complete,
-        value: r.value,
-        inexact: r.inexact,
-    }
+    Ok(())
+}
+
+// The root as a call of its own.
+pub fn sqrt(x: f64) -> Result<Rounded, Refusal>
+    ensures { result ≡ sqrt_call x }
+{
+    check_operand(x)?;
+    Ok(root(x))
 }

@@ -9,8 +9,8 @@ use lib.Dec.{T}
 use lib.Ieee.{Float, binary64, fits}
 use Rattle.arithmetic.specs.Outcome.{complete, ◌then◌}
 use Rattle.arithmetic.proofs.OutcomeLaws.{complete-is}
-use Rattle.arithmetic.specs.declared.outcome.Outcome.{Outcome}
-use Rattle.arithmetic.specs.declared.outcome.Outcome.TheVariants.{Complete}
+use Rattle.arithmetic.specs.Outcome.{Outcome}
+use Rattle.std.specs.Prelude.{Ok}
 use Rattle.matrix.specs.Matrix.{Square, at, zeros}
 use Rattle.matrix.specs.Plain.{AllBelow}
 use Rattle.matrix.specs.Checks.{check_finite, check_symmetric, AllFinite}
@@ -114,31 +114,31 @@ module _ (method n : ℕ) (a b : List ℕ) (l work e p : ℕ) (h : Accepted (ent
   numbers-read = (number-checks-accepted n b N).0
 
   -- .. goes on as one whose number checks came to Complete
-  pub passes_without : Accepted (entry_byte_checks method n a Complete l work e p)
+  pub passes_without : Accepted (entry_byte_checks method n a (Ok tt) l work e p)
   passes_without = rw (complete-is (number_byte_checks n b) N.is) at h
 
 pub numbered_is : (method n : ℕ) (a b l work e p : List ℕ) → Accepted (entry_byte_checks method n a (number_byte_checks n b) (length l) (length work) (length e) (length p))
-    → (r : BytesCall) (ns : List ℕ) → ns ≡ numbers b → r ≡ bytes_call_with Complete ns method n a l work e p → r ≡ factor_numbered_bytes_call method n a b l work e p
+    → (r : BytesCall) (ns : List ℕ) → ns ≡ numbers b → r ≡ bytes_call_with (Ok tt) ns method n a l work e p → r ≡ factor_numbered_bytes_call method n a b l work e p
 numbered_is method n a b l work e p h r ns en er =
     er ∙ ap₂ (λ (o : Outcome) (x : List ℕ). bytes_call_with o x method n a l work e p) (sym (complete-is (number_byte_checks n b) (N method n a b _ _ _ _ h).is)) en
 
 -- ---- the call
 pub call-refused : (numbering : Outcome) (ns : List ℕ) (method n : ℕ) (a l work e p : List ℕ) (o : Outcome) → let checks = entry_byte_checks method n a numbering (length l) (length work) (length e) (length p) in o ≡ checks → complete checks ≡ false
     → (d : Decomposition) → d ≡ (untouched_bytes o l work e p).decomposition → bytes_call d l work e p ≡ bytes_call_with numbering ns method n a l work e p
-unfolding bytes_call_with factor_byte_checks
+unfolding bytes_call_with
 call-refused numbering ns method n a l work e p o eo h d ed =
     let checks = entry_byte_checks method n a numbering (length l) (length work) (length e) (length p) in
     let s : checks ≡ (checks then check_symmetric n (doubles a)) = refused refl refl (check_symmetric n (doubles a)) (ap not h) in
     rw (← s, h, ed, eo)
 
-module _ (ns : List ℕ) (method n : ℕ) (a l work e p : List ℕ) (h : Accepted (entry_byte_checks method n a Complete (length l) (length work) (length e) (length p))) where
+module _ (ns : List ℕ) (method n : ℕ) (a l work e p : List ℕ) (h : Accepted (entry_byte_checks method n a (Ok tt) (length l) (length work) (length e) (length p))) where
   S : Sized n a (length l) (length work) (length e) (length p)
-  S = sized method n a Complete (length l) (length work) (length e) (length p) h
+  S = sized method n a (Ok tt) (length l) (length work) (length e) (length p) h
 
-  pub call-unsymmetric : (o : Outcome) → o ≡ check_symmetric n (doubles a) → complete (check_symmetric n (doubles a)) ≡ false → (d : Decomposition) → d ≡ (untouched_bytes o l work e p).decomposition → bytes_call d l work e p ≡ bytes_call_with Complete ns method n a l work e p
-  unfolding bytes_call_with factor_byte_checks
+  pub call-unsymmetric : (o : Outcome) → o ≡ check_symmetric n (doubles a) → complete (check_symmetric n (doubles a)) ≡ false → (d : Decomposition) → d ≡ (untouched_bytes o l work e p).decomposition → bytes_call d l work e p ≡ bytes_call_with (Ok tt) ns method n a l work e p
+  unfolding bytes_call_with
   call-unsymmetric o eo c d ed =
-      let s : check_symmetric n (doubles a) ≡ (entry_byte_checks method n a Complete (length l) (length work) (length e) (length p) then check_symmetric n (doubles a)) = goes_on h refl in
+      let s : check_symmetric n (doubles a) ≡ (entry_byte_checks method n a (Ok tt) (length l) (length work) (length e) (length p) then check_symmetric n (doubles a)) = goes_on h refl in
       rw (← s, c, ed, eo)
 
   -- a run
@@ -152,11 +152,11 @@ module _ (ns : List ℕ) (method n : ℕ) (a l work e p : List ℕ) (h : Accepte
         let W = writable_result n (factor (method_of method) tolerances ns n (doubles a)) S.some S.square.small (sound n a _ _ _ _ S k (method_of method) ns) in
         rw (ap (λ (x : Call). x.l) ran, ap (λ (x : Call). x.e) ran, ap (λ (x : Call). x.p) ran) W
 
-    pub call-answered : (l' work' e' p' : List ℕ) → l' ≡ over l 0 (double_bytes l2) → e' ≡ over e 0 (double_bytes e2) → p' ≡ over p 0 p2 → work' ≡ replicate (length work) 0 → bytes_call d l' work' e' p' ≡ bytes_call_with Complete ns method n a l work e p
-    unfolding bytes_call_with factor_byte_checks
+    pub call-answered : (l' work' e' p' : List ℕ) → l' ≡ over l 0 (double_bytes l2) → e' ≡ over e 0 (double_bytes e2) → p' ≡ over p 0 p2 → work' ≡ replicate (length work) 0 → bytes_call d l' work' e' p' ≡ bytes_call_with (Ok tt) ns method n a l work e p
+    unfolding bytes_call_with
     call-answered l' work' e' p' wl we wp ww =
         let W = writable in
-        let s : check_symmetric n (doubles a) ≡ (entry_byte_checks method n a Complete (length l) (length work) (length e) (length p) then check_symmetric n (doubles a)) = goes_on h refl in
+        let s : check_symmetric n (doubles a) ≡ (entry_byte_checks method n a (Ok tt) (length l) (length work) (length e) (length p) then check_symmetric n (doubles a)) = goes_on h refl in
         let el : l' ≡ double_bytes l2 = wl ∙ over-all l (double_bytes l2) (length-content l2 ∙ omega (arith, W.l_is, S.l_is)) in
         let ee : e' ≡ double_bytes e2 = we ∙ over-all e (double_bytes e2) (length-content e2 ∙ omega (arith, W.e_is, S.e_is)) in
         let ep : p' ≡ p2 = wp ∙ over-all p p2 (omega (arith, W.p_is, S.p_is)) in

@@ -1,8 +1,8 @@
 -- What the factorization on bytes answers: its decomposition and all four buffers.
 use Rattle.std.specs.Prelude.{List, [], cond, ℕ, ◌*◌, length}
 use Rattle.arithmetic.specs.Outcome.{complete, ◌then◌}
-use Rattle.arithmetic.specs.declared.outcome.Outcome.{Outcome}
-use Rattle.arithmetic.specs.declared.outcome.Outcome.TheVariants.{Complete}
+use Rattle.arithmetic.specs.Outcome.{Outcome}
+use Rattle.std.specs.Prelude.{Ok}
 use Rattle.matrix.specs.Matrix.{zeros}
 use Rattle.matrix.specs.Checks.{check_buffer, check_finite, check_symmetric}
 use Rattle.methods.specs.Calls.{operand_chain, method_of, unstarted}
@@ -29,12 +29,10 @@ operand_byte_checks method n a numbering l work e p =
 
 -- .. then 7, on bytes
 unfoldable pub entry_byte_checks : ℕ → ℕ → List ℕ → Outcome → ℕ → ℕ → ℕ → ℕ → Outcome
-unfolding operand_chain
 entry_byte_checks method n a numbering l work e p = operand_byte_checks method n (length a) numbering l work e p then check_finite n (doubles a)
 
 -- .. then 8
-unfoldable pub factor_byte_checks : ℕ → ℕ → List ℕ → Outcome → ℕ → ℕ → ℕ → ℕ → Outcome
-unfolding entry_byte_checks
+abbrev pub factor_byte_checks : ℕ → ℕ → List ℕ → Outcome → ℕ → ℕ → ℕ → ℕ → Outcome
 factor_byte_checks method n a numbering l work e p = entry_byte_checks method n a numbering l work e p then check_symmetric n (doubles a)
 
 -- refused before the first step: every buffer untouched
@@ -47,14 +45,14 @@ answered_bytes n r = bytes_call r.decomposition (double_bytes r.l) (double_bytes
 
 -- a call of which `numbering` is what the number checks come to
 unfoldable pub bytes_call_with : Outcome → List ℕ → ℕ → ℕ → List ℕ → List ℕ → List ℕ → List ℕ → List ℕ → BytesCall
-unfolding factor_byte_checks factor double_bytes
+unfolding factor double_bytes
 bytes_call_with numbering ns method n a l work e p =
     let checks = factor_byte_checks method n a numbering (length l) (length work) (length e) (length p) in
     cond (complete checks) (answered_bytes n (factor (method_of method) tolerances ns n (doubles a))) (untouched_bytes checks l work e p)
 
 -- without numbers
 abbrev pub factor_bytes_call : ℕ → ℕ → List ℕ → List ℕ → List ℕ → List ℕ → List ℕ → BytesCall
-factor_bytes_call method n a l work e p = bytes_call_with Complete [] method n a l work e p
+factor_bytes_call method n a l work e p = bytes_call_with (Ok tt) [] method n a l work e p
 
 -- with a number for each contract, in b
 abbrev pub factor_numbered_bytes_call : ℕ → ℕ → List ℕ → List ℕ → List ℕ → List ℕ → List ℕ → List ℕ → BytesCall

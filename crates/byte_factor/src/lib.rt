@@ -1,13 +1,12 @@
 // The factorization on bytes: doubles are eight bytes and contract numbers four, low byte first, p one byte an index.
 #![tactic(auto)]
 
-ghost use Rattle.std.specs.Prelude.{◌≡◌, true, ◌*◌, ◌≤◌, length};
+ghost use Rattle.std.specs.Prelude.{◌≡◌, true, Ok, ◌*◌, ◌≤◌, length};
 ghost use Rattle.arithmetic.specs.Outcome.{complete};
-ghost use Rattle.arithmetic.specs.declared.outcome.Outcome.TheVariants.{Complete};
 ghost use Rattle.encoding.specs.Checks.{number_byte_checks};
 ghost use Rattle.byte_factor.specs.Factor.{bytes_call, operand_byte_checks, entry_byte_checks, bytes_call_with, factor_bytes_call, factor_numbered_bytes_call};
 
-use arithmetic::outcome::Outcome;
+use arithmetic::refusal::Refusal;
 use encoding::checks::{
     check_entries, check_finite, check_list_buffer, check_matrix_buffer, number_byte_checks,
 };
@@ -19,11 +18,11 @@ use methods::method::Method;
 use modcholesky::calls::{operand_chain, run, untouched};
 
 // 12 and 13. Above 48 rows a call is refused before these, so no long list is searched.
-fn number_checks(n: usize, numbers: &[u8]) -> Outcome
+fn number_checks(n: usize, numbers: &[u8]) -> Result<(), Refusal>
     ensures { n ≤ 48 → result ≡ number_byte_checks n numbers.now }
 {
     if 48 < n {
-        return Outcome::Complete;
+        return Ok(());
     }
     number_byte_checks(n, numbers)
 }
@@ -33,12 +32,12 @@ fn operand_byte_checks(
     method: usize,
     n: usize,
     a: usize,
-    numbering: Outcome,
+    numbering: Result<(), Refusal>,
     l: usize,
     work: usize,
     e: usize,
     p: usize,
-) -> Outcome
+) -> Result<(), Refusal>
     ensures { result ≡ operand_byte_checks method n a numbering l work e p }
 {
     operand_chain(
@@ -54,19 +53,21 @@ fn operand_byte_checks(
 }
 
 // .. then 7.
+#[tactic(auto, unfolding(crate::specs::Factor::entry_byte_checks))]
 fn entry_byte_checks(
     method: usize,
     a: &[u8],
     n: usize,
-    numbering: Outcome,
+    numbering: Result<(), Refusal>,
     l: usize,
     work: usize,
     e: usize,
     p: usize,
-) -> Outcome
+) -> Result<(), Refusal>
     ensures { result ≡ entry_byte_checks method n a.now numbering l work e p }
 {
-    operand_byte_checks(method, n, a.len(), numbering, l, work, e, p).then(check_finite(n, a))
+    operand_byte_checks(method, n, a.len(), numbering, l, work, e, p)?;
+    check_finite(n, a)
 }
 
 // The number checks having passed: check 8, then the run on doubles; its result becomes bytes. What ends in 2 is lent for the doubles and indices.
@@ -85,14 +86,13 @@ fn factor_entries(
     e2: &mut [f64],
     p2: &mut [usize],
 ) -> Decomposition
-    requires p_value { complete (entry_byte_checks method n a.now Complete (length l.old) (length work.old) (length e.old) (length p.old)) ≡ true }
+    requires p_value { complete (entry_byte_checks method n a.now (Ok tt) (length l.old) (length work.old) (length e.old) (length p.old)) ≡ true }
     requires a2_len { (length a2.old ≡ n * n) × (length l2.old ≡ n * n) × (length work2.old ≡ n * n) × (length e2.old ≡ n) × (length p2.old ≡ n) }
-    ensures { bytes_call result l.new work.new e.new p.new ≡ bytes_call_with Complete numbers.now method n a.now l.old work.old e.old p.old }
+    ensures { bytes_call result l.new work.new e.new p.new ≡ bytes_call_with (Ok tt) numbers.now method n a.now l.old work.old e.old p.old }
 {
     read_doubles(a, a2);
-    let symmetric = checks::check_symmetric(n, a2);
-    if !symmetric.complete() {
-        return untouched(symmetric);
+    if let Err(refusal) = checks::check_symmetric(n, a2) {
+        return untouched(Err(refusal));
     }
     let d = run(Method::of(method), a2, n, numbers, l2, work2, e2, p2);
     write_doubles(l, 0, l2);
@@ -113,8 +113,8 @@ fn factor_unchecked(
     e: &mut [u8],
     p: &mut [u8],
 ) -> Decomposition
-    requires { complete (entry_byte_checks method n a.now Complete (length l.old) (length work.old) (length e.old) (length p.old)) ≡ true }
-    ensures { bytes_call result l.new work.new e.new p.new ≡ bytes_call_with Complete numbers.now method n a.now l.old work.old e.old p.old }
+    requires { complete (entry_byte_checks method n a.now (Ok tt) (length l.old) (length work.old) (length e.old) (length p.old)) ≡ true }
+    ensures { bytes_call result l.new work.new e.new p.new ≡ bytes_call_with (Ok tt) numbers.now method n a.now l.old work.old e.old p.old }
 {
     let mut a2 = [0.0; 2304];
     let mut l2 = [0.0; 2304];
@@ -151,21 +151,11 @@ pub fn factor(
 ) -> Decomposition
     ensures { bytes_call result l.new work.new e.new p.new ≡ factor_bytes_call method n a.now l.old work.old e.old p.old }
 {
-    let outcome = entry_byte_checks(
-        method,
-        a,
-        n,
-        Outcome::Complete,
-        l.len(),
-        work.len(),
-        e.len(),
-        p.len(),
-    );
-    if !outcome.complete() {
-        return untouched(outcome);
+    let checks = entry_byte_checks(method, a, n, Ok(()), l.len(), work.len(), e.len(), p.len());
+    match checks {
+        Ok(()) => factor_unchecked(method, a, n, &[], l, work, e, p),
+        Err(refusal) => untouched(Err(refusal)),
     }
-    let none: [u32; 1] = [0];
-    factor_unchecked(method, a, n, &none[0..0], l, work, e, p)
 }
 
 // The contracts' numbers are read into `read`.
@@ -201,7 +191,7 @@ pub fn factor_numbered(
 ) -> Decomposition
     ensures { bytes_call result l.new work.new e.new p.new ≡ factor_numbered_bytes_call method n a.now numbers.now l.old work.old e.old p.old }
 {
-    let outcome = entry_byte_checks(
+    let checks = entry_byte_checks(
         method,
         a,
         n,
@@ -211,9 +201,11 @@ pub fn factor_numbered(
         e.len(),
         p.len(),
     );
-    if !outcome.complete() {
-        return untouched(outcome);
+    match checks {
+        Ok(()) => {
+            let mut read: [u32; 48] = [0; 48];
+            factor_read(method, a, n, numbers, &mut read[0..n], l, work, e, p)
+        }
+        Err(refusal) => untouched(Err(refusal)),
     }
-    let mut read: [u32; 48] = [0; 48];
-    factor_read(method, a, n, numbers, &mut read[0..n], l, work, e, p)
 }

@@ -12,7 +12,7 @@ use lib.Ieee.{Float, nan}
 use lib.Ieee.Scale.{finite}
 use Rattle.arithmetic.specs.Double.{plus_zero, plus_zero_is}
 use Rattle.arithmetic.specs.Outcome.{complete}
-use Rattle.arithmetic.specs.declared.outcome.Outcome.{Outcome}
+use Rattle.arithmetic.specs.Outcome.{Outcome}
 use Rattle.arithmetic.proofs.Cases.{is, holds, fails}
 use Rattle.arithmetic.proofs.LoopLaws.{range-ind}
 use Rattle.matrix.specs.Matrix.{Square, zeros}
@@ -37,7 +37,6 @@ pub record CircleOperands (n : ℕ) (mat : List ℕ) (centres radii : ℕ) : Typ
   pub finite_entries : Accepted (check_finite n (doubles mat))
 
 pub circle_accepted : (n : ℕ) (mat : List ℕ) (centres radii : ℕ) → Accepted (circle_byte_checks n mat centres radii) → CircleOperands n mat centres radii
-unfolding circle_byte_checks
 circle_accepted n mat centres radii h =
     let f = both_accepted _ _ h in
     let r = both_accepted _ _ f.0 in
@@ -91,7 +90,6 @@ module _ (n : ℕ) (mat centres radii : List ℕ) (h : Accepted (circle_byte_che
       ((fc, finished_each n c fc), (fr, finished_each n r fr))
 
   pub circles-answered : (centres' radii' : List ℕ) → centres' ≡ over centres 0 (double_bytes c) → radii' ≡ over radii 0 (double_bytes r) → circles_bytes_call o centres' radii' ≡ gershgorin_circles_bytes_call n mat centres radii
-  unfolding gershgorin_circles_bytes_call
   circles-answered centres' radii' wc wr =
       let O = circle_accepted n mat (length centres) (length radii) h in
       let W = circles-written in

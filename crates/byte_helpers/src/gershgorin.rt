@@ -3,7 +3,7 @@ ghost use Rattle.std.specs.Prelude.{◌≡◌, true, ◌*◌, length};
 ghost use Rattle.arithmetic.specs.Outcome.{complete};
 ghost use Rattle.byte_helpers.specs.Helpers.{circles_bytes_call, circle_byte_checks, gershgorin_circles_bytes_call};
 
-use arithmetic::outcome::Outcome;
+use arithmetic::refusal::Refusal;
 use circles::gershgorin::gershgorin_circles_unchecked as circles_of_doubles;
 use encoding::checks::{check_entries, check_finite, check_list_buffer};
 use encoding::read::read_doubles;
@@ -20,7 +20,7 @@ fn write_circles(
     a: &mut [f64],
     c: &mut [f64],
     r: &mut [f64],
-) -> Outcome
+) -> Result<(), Refusal>
     requires radii_value { complete (circle_byte_checks n mat.now (length centres.old) (length radii.old)) ≡ true }
     requires a_len { (length a.old ≡ n * n) × (length c.old ≡ n) × (length r.old ≡ n) }
     ensures { circles_bytes_call result centres.new radii.new ≡ gershgorin_circles_bytes_call n mat.now centres.old radii.old }
@@ -39,7 +39,7 @@ fn gershgorin_circles_unchecked(
     n: usize,
     centres: &mut [u8],
     radii: &mut [u8],
-) -> Outcome
+) -> Result<(), Refusal>
     requires { complete (circle_byte_checks n mat.now (length centres.old) (length radii.old)) ≡ true }
     ensures { circles_bytes_call result centres.new radii.new ≡ gershgorin_circles_bytes_call n mat.now centres.old radii.old }
 {
@@ -58,22 +58,24 @@ fn gershgorin_circles_unchecked(
     )
 }
 
-fn circle_byte_checks(mat: &[u8], n: usize, centres: usize, radii: usize) -> Outcome
+fn circle_byte_checks(mat: &[u8], n: usize, centres: usize, radii: usize) -> Result<(), Refusal>
     ensures { result ≡ circle_byte_checks n mat.now centres radii }
 {
-    check_size(n)
-        .then(check_entries(n, mat.len()))
-        .then(check_list_buffer(n, centres))
-        .then(check_list_buffer(n, radii))
-        .then(check_finite(n, mat))
+    check_size(n)?;
+    check_entries(n, mat.len())?;
+    check_list_buffer(n, centres)?;
+    check_list_buffer(n, radii)?;
+    check_finite(n, mat)
 }
 
-pub fn gershgorin_circles(mat: &[u8], n: usize, centres: &mut [u8], radii: &mut [u8]) -> Outcome
+pub fn gershgorin_circles(
+    mat: &[u8],
+    n: usize,
+    centres: &mut [u8],
+    radii: &mut [u8],
+) -> Result<(), Refusal>
     ensures { circles_bytes_call result centres.new radii.new ≡ gershgorin_circles_bytes_call n mat.now centres.old radii.old }
 {
-    let outcome = circle_byte_checks(mat, n, centres.len(), radii.len());
-    if !outcome.complete() {
-        return outcome;
-    }
+    circle_byte_checks(mat, n, centres.len(), radii.len())?;
     gershgorin_circles_unchecked(mat, n, centres, radii)
 }

@@ -1,4 +1,4 @@
-// Permutation and diagonal matrices, written as bytes.
+// Permutation and diagonal matrices, written as bytes, without an array of doubles between.
 ghost use Rattle.std.specs.Prelude.{◌≡◌, true, ℕ, ◌*◌, ◌<◌, ◌≤◌, length, get_or};
 ghost use Rattle.std.specs.Float.{nan};
 ghost use Rattle.std.specs.Float.Ieee.Scale.{finite};
@@ -6,9 +6,9 @@ ghost use Rattle.matrix.specs.Plain.{AllBelow, index_to_permutation_mat, diag_ma
 ghost use Rattle.encoding.specs.Bytes.{doubles, double_bytes};
 ghost use Rattle.byte_helpers.specs.Helpers.{permutation_byte_checks, index_to_permutation_mat_bytes_call, diagonal_byte_checks, diag_mat_from_arr_bytes_call};
 
-use arithmetic::outcome::Outcome;
+use arithmetic::refusal::Refusal;
 use encoding::checks::{check_finite, check_indices, check_matrix_buffer, check_whole};
-use encoding::read::{read_number, whole};
+use encoding::read::read_number;
 use encoding::write::{clear_bytes, write_number};
 use matrix::checks::check_size;
 use matrix::entries::cell;
@@ -23,28 +23,26 @@ fn index_to_permutation_mat_unchecked(idxs: &[u8], mat: &mut [u8])
 {
     clear_bytes(mat);
     let n = idxs.len();
-    for i in 0..n {
-        write_number(mat, 8 * cell(n, i, whole(idxs[i])), ONE);
+    for (i, index) in idxs.iter().enumerate() {
+        write_number(mat, 8 * cell(n, i, usize::from(*index)), ONE);
     }
 }
 
-fn permutation_byte_checks(idxs: &[u8], len: usize) -> Outcome
+fn permutation_byte_checks(idxs: &[u8], len: usize) -> Result<(), Refusal>
     ensures { result ≡ permutation_byte_checks idxs.now len }
 {
     let n = idxs.len();
-    check_size(n)
-        .then(check_matrix_buffer(n, len))
-        .then(check_indices(n, idxs))
+    check_size(n)?;
+    check_matrix_buffer(n, len)?;
+    check_indices(n, idxs)
 }
 
-pub fn index_to_permutation_mat(idxs: &[u8], mat: &mut [u8]) -> Outcome
+pub fn index_to_permutation_mat(idxs: &[u8], mat: &mut [u8]) -> Result<(), Refusal>
     ensures { record { outcome = result; mat = mat.new } ≡ index_to_permutation_mat_bytes_call idxs.now mat.old }
 {
-    let outcome = permutation_byte_checks(idxs, mat.len());
-    if outcome.complete() {
-        index_to_permutation_mat_unchecked(idxs, mat);
-    }
-    outcome
+    permutation_byte_checks(idxs, mat.len())?;
+    index_to_permutation_mat_unchecked(idxs, mat);
+    Ok(())
 }
 
 fn diag_mat_from_arr_unchecked(arr: &[u8], n: usize, mat: &mut [u8])
@@ -58,22 +56,20 @@ fn diag_mat_from_arr_unchecked(arr: &[u8], n: usize, mat: &mut [u8])
     }
 }
 
-fn diagonal_byte_checks(arr: &[u8], len: usize) -> Outcome
+fn diagonal_byte_checks(arr: &[u8], len: usize) -> Result<(), Refusal>
     ensures { result ≡ diagonal_byte_checks arr.now len }
 {
     let n = arr.len() / 8;
-    check_size(n)
-        .then(check_whole(arr.len()))
-        .then(check_matrix_buffer(n, len))
-        .then(check_finite(1, arr))
+    check_size(n)?;
+    check_whole(arr.len())?;
+    check_matrix_buffer(n, len)?;
+    check_finite(1, arr)
 }
 
-pub fn diag_mat_from_arr(arr: &[u8], mat: &mut [u8]) -> Outcome
+pub fn diag_mat_from_arr(arr: &[u8], mat: &mut [u8]) -> Result<(), Refusal>
     ensures { record { outcome = result; mat = mat.new } ≡ diag_mat_from_arr_bytes_call arr.now mat.old }
 {
-    let outcome = diagonal_byte_checks(arr, mat.len());
-    if outcome.complete() {
-        diag_mat_from_arr_unchecked(arr, arr.len() / 8, mat);
-    }
-    outcome
+    diagonal_byte_checks(arr, mat.len())?;
+    diag_mat_from_arr_unchecked(arr, arr.len() / 8, mat);
+    Ok(())
 }

@@ -1,4 +1,4 @@
-// Searches over bytes: a list may have any length, so no array holds its doubles.
+// Searches over bytes: a list may have any length, so no array holds its doubles, and the searches of crates/matrix can't be called.
 ghost use Rattle.std.specs.Prelude.{◌≡◌, Bool, true, ℕ, ◌/◌, ◌<◌, length, get_or};
 ghost use Rattle.std.specs.Float.{nan};
 ghost use Rattle.std.specs.Float.Ieee.Scale.{finite};
@@ -6,11 +6,11 @@ ghost use Rattle.matrix.specs.Search.{best_of};
 ghost use Rattle.encoding.specs.Bytes.{doubles};
 ghost use Rattle.byte_helpers.specs.Helpers.{search_byte_checks, search_bytes_call};
 
-use arithmetic::outcome::Outcome;
+use arithmetic::refusal::Refusal;
 use encoding::checks::{check_finite, check_whole};
 use encoding::read::read_number;
 use matrix::checks::check_some;
-use matrix::utils::{Best, SearchAnswer, better, key};
+use matrix::utils::{Best, better, key};
 
 fn double_at(b: &[u8], k: usize) -> f64
     requires { (k < length b.now / 8) × (finite (get_or (doubles b.now) k nan) ≡ true) }
@@ -35,35 +35,28 @@ fn best_of(magnitude: bool, c: &[u8]) -> Best
     s
 }
 
-fn search_byte_checks(c: &[u8]) -> Outcome
+fn search_byte_checks(c: &[u8]) -> Result<(), Refusal>
     ensures { result ≡ search_byte_checks c.now }
 {
-    check_some(c.len())
-        .then(check_whole(c.len()))
-        .then(check_finite(1, c))
+    check_some(c.len())?;
+    check_whole(c.len())?;
+    check_finite(1, c)
 }
 
-fn search(magnitude: bool, c: &[u8]) -> SearchAnswer
+fn search(magnitude: bool, c: &[u8]) -> Result<usize, Refusal>
     ensures { result ≡ search_bytes_call magnitude c.now }
 {
-    let outcome = search_byte_checks(c);
-    if outcome.complete() {
-        let best = best_of(magnitude, c);
-        return SearchAnswer {
-            outcome,
-            index: best.index,
-        };
-    }
-    SearchAnswer { outcome, index: 0 }
+    search_byte_checks(c)?;
+    Ok(best_of(magnitude, c).index)
 }
 
-pub fn index_of_largest(c: &[u8]) -> SearchAnswer
+pub fn index_of_largest(c: &[u8]) -> Result<usize, Refusal>
     ensures { result ≡ search_bytes_call Bool.false c.now }
 {
     search(false, c)
 }
 
-pub fn index_of_largest_abs(c: &[u8]) -> SearchAnswer
+pub fn index_of_largest_abs(c: &[u8]) -> Result<usize, Refusal>
     ensures { result ≡ search_bytes_call Bool.true c.now }
 {
     search(true, c)

@@ -1,10 +1,10 @@
-// Swaps of rows and columns: bytes move, whatever doubles they are.
+// Swaps of rows and columns: bytes move, whatever doubles they are, so these aren't the swaps of crates/matrix.
 ghost use Rattle.std.specs.Prelude.{◌≡◌, [], ◌*◌, ◌<◌, ◌≤◌, length};
 ghost use Rattle.matrix.specs.Swap.{swap};
 ghost use Rattle.encoding.specs.Elements.{elements, joined};
 ghost use Rattle.byte_helpers.specs.Helpers.{swap_byte_checks, swap_rows_bytes, swap_columns_bytes, swap_rows_bytes_call, swap_columns_bytes_call};
 
-use arithmetic::outcome::Outcome;
+use arithmetic::refusal::Refusal;
 use encoding::checks::check_entries;
 use encoding::read::read_number;
 use encoding::write::write_number;
@@ -40,31 +40,27 @@ fn swap_columns_unchecked(mat: &mut [u8], n: usize, idx1: usize, idx2: usize)
     }
 }
 
-fn swap_byte_checks(n: usize, len: usize, idx1: usize, idx2: usize) -> Outcome
+fn swap_byte_checks(n: usize, len: usize, idx1: usize, idx2: usize) -> Result<(), Refusal>
     ensures { result ≡ swap_byte_checks n len idx1 idx2 }
 {
-    checks::check_size(n)
-        .then(check_entries(n, len))
-        .then(checks::check_index(n, 0, idx1))
-        .then(checks::check_index(n, 1, idx2))
+    checks::check_size(n)?;
+    check_entries(n, len)?;
+    checks::check_index(n, 0, idx1)?;
+    checks::check_index(n, 1, idx2)
 }
 
-pub fn swap_rows(mat: &mut [u8], n: usize, idx1: usize, idx2: usize) -> Outcome
+pub fn swap_rows(mat: &mut [u8], n: usize, idx1: usize, idx2: usize) -> Result<(), Refusal>
     ensures { record { outcome = result; mat = mat.new } ≡ swap_rows_bytes_call n mat.old idx1 idx2 }
 {
-    let outcome = swap_byte_checks(n, mat.len(), idx1, idx2);
-    if outcome.complete() {
-        swap_rows_unchecked(mat, n, idx1, idx2);
-    }
-    outcome
+    swap_byte_checks(n, mat.len(), idx1, idx2)?;
+    swap_rows_unchecked(mat, n, idx1, idx2);
+    Ok(())
 }
 
-pub fn swap_columns(mat: &mut [u8], n: usize, idx1: usize, idx2: usize) -> Outcome
+pub fn swap_columns(mat: &mut [u8], n: usize, idx1: usize, idx2: usize) -> Result<(), Refusal>
     ensures { record { outcome = result; mat = mat.new } ≡ swap_columns_bytes_call n mat.old idx1 idx2 }
 {
-    let outcome = swap_byte_checks(n, mat.len(), idx1, idx2);
-    if outcome.complete() {
-        swap_columns_unchecked(mat, n, idx1, idx2);
-    }
-    outcome
+    swap_byte_checks(n, mat.len(), idx1, idx2)?;
+    swap_columns_unchecked(mat, n, idx1, idx2);
+    Ok(())
 }

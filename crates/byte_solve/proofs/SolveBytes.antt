@@ -8,7 +8,7 @@ use lib.ListN.{length, get_or}
 use lib.Ieee.{Float, nan}
 use lib.Ieee.Scale.{finite}
 use Rattle.arithmetic.specs.Outcome.{complete}
-use Rattle.arithmetic.specs.declared.outcome.Outcome.{Outcome}
+use Rattle.arithmetic.specs.Outcome.{Outcome}
 use Rattle.matrix.specs.Matrix.{at}
 use Rattle.matrix.specs.Plain.{AllBelow}
 use Rattle.matrix.proofs.CheckLaws.{Accepted, refused, goes_on, both_accepted, size_accepted, buffer_accepted, list_accepted}
@@ -35,7 +35,6 @@ pub record Sized (n l y p b : ℕ) : Type 0 where
   pub b_is : b ≡ 8 * n
 
 pub sized : (n l y p b : ℕ) → Accepted (length_byte_checks n l y p b) → Sized n l y p b
-unfolding length_byte_checks
 sized n l y p b h =
     let f = both_accepted _ _ h in
     let r = both_accepted _ _ f.0 in
@@ -57,14 +56,12 @@ module _ (n : ℕ) (l p b y : List ℕ) where
   patterns = pattern_checks n l p b
 
   by_checks : (o : Outcome) → o ≡ solve_byte_checks n l (length y) p b → complete o ≡ false → solve_bytes_call_of o y ≡ solve_bytes_call n l p b y
-  unfolding solve_bytes_call
   by_checks o e h = rw (← e, h)
 
   pub refused-lengths : (o : Outcome) → o ≡ lengths → complete lengths ≡ false → solve_bytes_call_of o y ≡ solve_bytes_call n l p b y
   refused-lengths o e h = by_checks o (e ∙ refused refl refl _ (ap not h)) (rw e h)
 
   pub refused-patterns : Accepted lengths → (o : Outcome) → o ≡ patterns → complete patterns ≡ false → solve_bytes_call_of o y ≡ solve_bytes_call n l p b y
-  unfolding content_checks
   refused-patterns L o e h = by_checks o (goes_on L (e ∙ refused refl refl _ (ap not h))) (rw e h)
 
 -- ---- those passed
@@ -93,7 +90,6 @@ module _ {n : ℕ} {l p b y : List ℕ} (P : Passed n l p b y) where
     }
 
     checked : (o : Outcome) → o ≡ check_divisors n l2 → o ≡ solve_byte_checks n l (length y) p b
-    unfolding content_checks
     checked o e = goes_on P.lengths_pass (goes_on P.patterns_pass (e ∙ divisors-lower n l2 (doubles l) S))
 
     pub refused-divisors : (o : Outcome) → o ≡ check_divisors n l2 → complete (check_divisors n l2) ≡ false → solve_bytes_call_of o y ≡ solve_bytes_call n l p b y
@@ -114,7 +110,6 @@ module _ {n : ℕ} {l p b y : List ℕ} (P : Passed n l p b y) where
       writable = (len, λ k q. ap (λ (v : List Float). finite (get_or v k nan)) y_is ∙ solve-finite n (doubles l) p (doubles b) k (omega (arith, len)))
 
       pub answered : Accepted (check_divisors n l2) → (y' : List ℕ) → y' ≡ over y 0 (double_bytes y2) → solve_bytes_call_of o y' ≡ solve_bytes_call n l p b y
-      unfolding solve_bytes_call
       answered D y' w =
           let e : y' ≡ double_bytes y2 = w ∙ over-all y (double_bytes y2) (length-content y2 ∙ omega (arith, len, sizes.y_is)) in
           rw (← checked _ refl, D.is, e) (ap (λ (c : SolveCall). solve_bytes_call_of c.outcome (double_bytes c.y)) these)

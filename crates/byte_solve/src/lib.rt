@@ -12,7 +12,7 @@ ghost use Rattle.solve.specs.LowerPart.{SameLower};
 ghost use Rattle.encoding.specs.Bytes.{doubles};
 ghost use Rattle.byte_solve.specs.Solve.{solve_bytes_call_of, length_byte_checks, pattern_checks, solve_bytes_call};
 
-use arithmetic::outcome::Outcome;
+use arithmetic::refusal::Refusal;
 use encoding::checks::{
     check_double_list, check_entries, check_finite, check_list_buffer, finite_pattern,
 };
@@ -32,32 +32,29 @@ fn pattern(l: &[u8], n: usize, i: usize, j: usize) -> u64
     read_number(l, 8 * cell(n, i, j))
 }
 
-// The first column of row i, up to the diagonal, whose entry isn't finite, or i + 1. No double is made.
+// The first column of row i, up to the diagonal, whose entry isn't finite, or i + 1, as its definition answers. No double is made.
 fn first_in_row(l: &[u8], n: usize, i: usize) -> usize
     requires { (length l.now ≡ 8 * (n * n)) × (n ≤ 48) × (i < n) }
     ensures { result ≡ first_in_row n (doubles l.now) i }
 {
     let end = i + 1;
-    for j in 0..end {
-        if !finite_pattern(pattern(l, n, i, j)) {
-            return j;
-        }
-    }
-    end
+    (0..end)
+        .position(|j| !finite_pattern(pattern(l, n, i, j)))
+        .unwrap_or(end)
 }
 
 // 7, of the lower part.
-fn check_lower(n: usize, l: &[u8]) -> Outcome
+fn check_lower(n: usize, l: &[u8]) -> Result<(), Refusal>
     requires { (length l.now ≡ 8 * (n * n)) × (n ≤ 48) }
     ensures { result ≡ check_lower n (doubles l.now) }
 {
     for i in 0..n {
         let j = first_in_row(l, n, i);
         if j <= i {
-            return Outcome::NotFinite { row: i, column: j };
+            return Err(Refusal::NotFinite { row: i, column: j });
         }
     }
-    Outcome::Complete
+    Ok(())
 }
 
 // Row i of the lower part: a becomes it there, and stays as it was in the rows before.
@@ -88,24 +85,24 @@ fn read_lower(l: &[u8], n: usize, a: &mut [f64])
 }
 
 // 3, 4, 5, 14.
-fn length_byte_checks(n: usize, l: usize, y: usize, p: usize, b: usize) -> Outcome
+fn length_byte_checks(n: usize, l: usize, y: usize, p: usize, b: usize) -> Result<(), Refusal>
     ensures { result ≡ length_byte_checks n l y p b }
 {
-    checks::check_size(n)
-        .then(check_entries(n, l))
-        .then(check_list_buffer(n, y))
-        .then(checks::check_list(n, p))
-        .then(check_double_list(n, b))
+    checks::check_size(n)?;
+    check_entries(n, l)?;
+    check_list_buffer(n, y)?;
+    checks::check_list(n, p)?;
+    check_double_list(n, b)
 }
 
 // 6, 7. No double is made.
-fn pattern_checks(l: &[u8], n: usize, p: &[usize], b: &[u8]) -> Outcome
+fn pattern_checks(l: &[u8], n: usize, p: &[usize], b: &[u8]) -> Result<(), Refusal>
     requires { (length l.now ≡ 8 * (n * n)) × (n ≤ 48) }
     ensures { result ≡ pattern_checks n l.now p.now b.now }
 {
-    check_order(n, p)
-        .then(check_lower(n, l))
-        .then(check_finite(1, b))
+    check_order(n, p)?;
+    check_lower(n, l)?;
+    check_finite(1, b)
 }
 
 // L's lower part and b are read, 15 is checked, and the steps' y becomes bytes. What ends in 2 is lent for doubles.
@@ -119,7 +116,7 @@ fn solve_entries(
     b2: &mut [f64],
     values2: &mut [f64],
     y2: &mut [f64],
-) -> Outcome
+) -> Result<(), Refusal>
     requires b_value { complete (length_byte_checks n (length l.now) (length y.old) (length p.now) (length b.now)) ≡ true }
     requires b_value_2 { complete (pattern_checks n l.now p.now b.now) ≡ true }
     requires l2_len { (length l2.old ≡ n * n) × (length b2.old ≡ n) × (length values2.old ≡ n) × (length y2.old ≡ n) }
@@ -127,17 +124,14 @@ fn solve_entries(
 {
     read_lower(l, n, l2);
     read_doubles(b, b2);
-    let divisors = check_divisors(n, l2);
-    if !divisors.complete() {
-        return divisors;
-    }
+    check_divisors(n, l2)?;
     let outcome = solve_unchecked(l2, n, p, b2, values2, y2);
     write_doubles(y, 0, y2);
     outcome
 }
 
 // With parts of arrays lent for the doubles.
-fn solve_patterns(l: &[u8], n: usize, p: &[usize], b: &[u8], y: &mut [u8]) -> Outcome
+fn solve_patterns(l: &[u8], n: usize, p: &[usize], b: &[u8], y: &mut [u8]) -> Result<(), Refusal>
     requires b_value { complete (length_byte_checks n (length l.now) (length y.old) (length p.now) (length b.now)) ≡ true }
     requires b_value_2 { complete (pattern_checks n l.now p.now b.now) ≡ true }
     ensures { solve_bytes_call_of result y.new ≡ solve_bytes_call n l.now p.now b.now y.old }
@@ -161,27 +155,28 @@ fn solve_patterns(l: &[u8], n: usize, p: &[usize], b: &[u8], y: &mut [u8]) -> Ou
 }
 
 // p is read into p2, and 6 and 7 are checked.
-fn solve_read(l: &[u8], n: usize, p: &[u8], b: &[u8], y: &mut [u8], p2: &mut [usize]) -> Outcome
+fn solve_read(
+    l: &[u8],
+    n: usize,
+    p: &[u8],
+    b: &[u8],
+    y: &mut [u8],
+    p2: &mut [usize],
+) -> Result<(), Refusal>
     requires b_value { complete (length_byte_checks n (length l.now) (length y.old) (length p.now) (length b.now)) ≡ true }
     requires p2_len { length p2.old ≡ n }
     ensures { solve_bytes_call_of result y.new ≡ solve_bytes_call n l.now p.now b.now y.old }
 {
     read_order(p, p2);
-    let outcome = pattern_checks(l, n, p2, b);
-    if !outcome.complete() {
-        return outcome;
-    }
+    pattern_checks(l, n, p2, b)?;
     solve_patterns(l, n, p2, b, y)
 }
 
 // The y with L times L transposed times y equal to b, put back in contract order.
-pub fn solve(l: &[u8], n: usize, p: &[u8], b: &[u8], y: &mut [u8]) -> Outcome
+pub fn solve(l: &[u8], n: usize, p: &[u8], b: &[u8], y: &mut [u8]) -> Result<(), Refusal>
     ensures { solve_bytes_call_of result y.new ≡ solve_bytes_call n l.now p.now b.now y.old }
 {
-    let outcome = length_byte_checks(n, l.len(), y.len(), p.len(), b.len());
-    if !outcome.complete() {
-        return outcome;
-    }
+    length_byte_checks(n, l.len(), y.len(), p.len(), b.len())?;
     let mut p2 = [0; 48];
     solve_read(l, n, p, b, y, &mut p2[0..n])
 }

@@ -1,5 +1,5 @@
 -- An accepted circle's radius is finite and not negative.
-use mathlib.Core.Path.{◌≡◌, refl}
+use mathlib.Core.Path.{◌≡◌}
 use mathlib.Core.List.{List}
 use mathlib.Core.Bool.{Bool, true, false, cond, ◌&&◌, ◌||◌}
 use Prim.Native.Nat.{ℕ, ◌≤◌, ◌<◌}
@@ -16,7 +16,7 @@ use Rattle.arithmetic.specs.Outcome.{complete}
 use Rattle.arithmetic.proofs.OutcomeLaws.{refuse-complete}
 use Rattle.arithmetic.specs.Sign.{sign_of}
 use Rattle.arithmetic.proofs.SignLaws.{abs-sign, not_negative, plus_zero-sign, add-sign}
-use Rattle.arithmetic.specs.declared.outcome.Outcome.TheVariants.{StoredNotFinite}
+use Rattle.arithmetic.specs.declared.refusal.Refusal.TheVariants.{StoredNotFinite}
 use Rattle.matrix.specs.Matrix.{at}
 use Rattle.circles.specs.Circles.{add_magnitudes, sums, radius, overflows, first_overflow, overflow}
 use Rattle.circles.specs.declared.gershgorin.Sums.{Sums}
@@ -45,7 +45,7 @@ choose P false x y p q = q
 -- no row overflows in an accepted call
 rows-finite : (n : ℕ) (mat : List Float) → complete (overflow n mat) ≡ true → (i : ℕ) → i < n → overflows (sums n mat i) ≡ false
 rows-finite n mat h i q =
-    let e = refuse-complete (ltb (first_overflow n mat) n) (StoredNotFinite (first_overflow n mat)) refl h in
+    let e = refuse-complete (ltb (first_overflow n mat) n) (StoredNotFinite (first_overflow n mat)) h in
     let l : n ≤ first_overflow n mat = ltb-false (first_overflow n mat) n e in
     good i (omega arith)
   where

@@ -5,8 +5,8 @@ use Rattle.arithmetic.specs.Double.{◌⊕◌, abs, min, plus_zero}
 use Rattle.arithmetic.specs.Loop.{range}
 use Rattle.arithmetic.specs.First.{first}
 use Rattle.arithmetic.specs.Outcome.{complete, refuse, ◌then◌}
-use Rattle.arithmetic.specs.declared.outcome.Outcome.{Outcome}
-use Rattle.arithmetic.specs.declared.outcome.Outcome.TheVariants.{StoredNotFinite}
+use Rattle.arithmetic.specs.Outcome.{Outcome}
+use Rattle.arithmetic.specs.declared.refusal.Refusal.TheVariants.{StoredNotFinite}
 use Rattle.matrix.specs.Matrix.{at, zeros}
 use Rattle.matrix.specs.Checks.{check_size, check_matrix, check_buffer, check_finite}
 use Rattle.circles.specs.declared.gershgorin.Sums.{Sums}
@@ -56,7 +56,7 @@ pub record CirclesCall : Type 0 where
 abbrev pub circles_call : Outcome → List Float → List Float → CirclesCall
 circles_call outcome centres radii = record { outcome = outcome; centres = centres; radii = radii }
 
-unfoldable pub circle_checks : ℕ → List Float → ℕ → ℕ → Outcome
+abbrev pub circle_checks : ℕ → List Float → ℕ → ℕ → Outcome
 circle_checks n mat centres radii = check_size n then check_matrix n (length mat) then check_buffer n centres then check_buffer n radii then check_finite n mat
 
 abbrev pub overflow : ℕ → List Float → Outcome

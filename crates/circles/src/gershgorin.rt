@@ -4,7 +4,7 @@ ghost use Rattle.matrix.specs.Matrix.{Square};
 ghost use Rattle.circles.specs.Circles.{add_magnitudes, sums, overflows, circles_call, circle_checks, gershgorin_circles, gershgorin_circles_call};
 
 use arithmetic::double::{abs, finite, min};
-use arithmetic::outcome::Outcome;
+use arithmetic::refusal::Refusal;
 use matrix::checks;
 use matrix::entries::{clear, get};
 
@@ -45,10 +45,7 @@ fn magnitude_sums(mat: &[f64], n: usize, i: usize) -> Sums
 fn overflows(s: Sums) -> bool
     ensures { result ≡ overflows s }
 {
-    if finite(s.ri) {
-        return !finite(s.ci);
-    }
-    true
+    !finite(s.ri) || !finite(s.ci)
 }
 
 pub fn gershgorin_circles_unchecked(
@@ -56,7 +53,7 @@ pub fn gershgorin_circles_unchecked(
     n: usize,
     centres: &mut [f64],
     radii: &mut [f64],
-) -> Outcome
+) -> Result<(), Refusal>
     requires square { Square n mat.now }
     requires centres_len { (length centres.old ≡ n) × (length radii.old ≡ n) }
     ensures { circles_call result centres.new radii.new ≡ gershgorin_circles n mat.now centres.old radii.old }
@@ -66,30 +63,32 @@ pub fn gershgorin_circles_unchecked(
         if overflows(s) {
             clear(centres);
             clear(radii);
-            return Outcome::StoredNotFinite { step: i };
+            return Err(Refusal::StoredNotFinite { step: i });
         }
         centres[i] = get(mat, n, i, i);
         radii[i] = min(s.ri, s.ci);
     }
-    Outcome::Complete
+    Ok(())
 }
 
-fn circle_checks(mat: &[f64], n: usize, centres: usize, radii: usize) -> Outcome
+fn circle_checks(mat: &[f64], n: usize, centres: usize, radii: usize) -> Result<(), Refusal>
     ensures { result ≡ circle_checks n mat.now centres radii }
 {
-    checks::check_size(n)
-        .then(checks::check_matrix(n, mat.len()))
-        .then(checks::check_buffer(n, centres))
-        .then(checks::check_buffer(n, radii))
-        .then(checks::check_finite(n, mat))
+    checks::check_size(n)?;
+    checks::check_matrix(n, mat.len())?;
+    checks::check_buffer(n, centres)?;
+    checks::check_buffer(n, radii)?;
+    checks::check_finite(n, mat)
 }
 
-pub fn gershgorin_circles(mat: &[f64], n: usize, centres: &mut [f64], radii: &mut [f64]) -> Outcome
+pub fn gershgorin_circles(
+    mat: &[f64],
+    n: usize,
+    centres: &mut [f64],
+    radii: &mut [f64],
+) -> Result<(), Refusal>
     ensures { circles_call result centres.new radii.new ≡ gershgorin_circles_call n mat.now centres.old radii.old }
 {
-    let outcome = circle_checks(mat, n, centres.len(), radii.len());
-    if !outcome.complete() {
-        return outcome;
-    }
+    circle_checks(mat, n, centres.len(), radii.len())?;
     gershgorin_circles_unchecked(mat, n, centres, radii)
 }

@@ -8,7 +8,7 @@ use borrow.Author.Tests.{not-false, eqb-true}
 use lib.ListN.{length, get_or, take, drop}
 use lib.Dec.{eqb}
 use Rattle.arithmetic.proofs.OutcomeLaws.{refuse-complete}
-use Rattle.arithmetic.specs.declared.outcome.Outcome.TheVariants.{NumbersLength}
+use Rattle.arithmetic.specs.declared.refusal.Refusal.TheVariants.{NumbersLength}
 use Rattle.matrix.specs.Checks.{check_distinct, Distinct}
 use Rattle.matrix.proofs.TableLaws.{length-table, get_or-table}
 use Rattle.matrix.proofs.CheckLaws.{Accepted, both_accepted, distinct-accepted}
@@ -44,7 +44,7 @@ module _ (b : List ℕ) (i k : ℕ) (p : i < length b / 4) (q : k < length b / 4
 
 -- ---- what accepted checks say
 pub number-bytes_accepted : (n len : ℕ) → Accepted (check_number_bytes n len) → len ≡ 4 * n
-number-bytes_accepted n len h = eqb-true len (4 * n) (not-false (eqb len (4 * n)) (refuse-complete (not (eqb len (4 * n))) NumbersLength refl h.is))
+number-bytes_accepted n len h = eqb-true len (4 * n) (not-false (eqb len (4 * n)) (refuse-complete (not (eqb len (4 * n))) NumbersLength h.is))
 
 -- n numbers, no two equal
 pub number-checks-accepted : (n : ℕ) (b : List ℕ) → Accepted (number_byte_checks n b) → (length b ≡ 4 * n) × (length (numbers b) ≡ n) × Distinct (numbers b)

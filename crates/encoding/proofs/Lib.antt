@@ -8,3 +8,4 @@ pub mod WriteLaws
 pub mod Elements
 pub mod Rewritten
 pub mod Checked
+pub mod Searches

@@ -1,13 +1,13 @@
 -- Numbers read from bytes, and the patterns of finite doubles.
-use mathlib.Core.Path.{◌≡◌, refl}
+use mathlib.Core.Path.{◌≡◌, refl, sym, ap, ◌∙◌}
 use mathlib.Core.List.{List, [], ◌∷◌}
 use mathlib.Core.Bool.{Bool, true, false, not, cond}
 use Prim.Native.Nat.{ℕ, zero, suc, ◌+◌, ◌-◌, ◌*◌, ◌/◌, ◌%◌, ◌^◌, ◌≤◌, ◌<◌}
-use native.Mathlib.Nat.{lt_of_lt_of_le, one-le-pow, pow-le-pow_right}
-use native.Mathlib.Numerals.{add-one}
+use native.Mathlib.Nat.{lt_of_lt_of_le, one-le-pow, pow-le-pow_right, div-div-eq-div-mul, pow-suc}
 use native.Mathlib.Omega.{arith}
+use Rattle.std.specs.Int.{w32, w64, byte_worth, byte_at, sum_through, from_le_bytes, bytes_low_first, to_le_bytes}
 use lib.ListN.{length, get_or, take, drop}
-use lib.Seq.{drop-cons, get_or-drop}
+use lib.Seq.{drop-cons, get_or-drop, take_all}
 use lib.Dec.{T, eqb, leb}
 use lib.Ieee.{nan, inf, binary64, of_bits, nan_bits, of_fields, odd, top, hid}
 use lib.Ieee.Bits.{nan_bits_is}
@@ -27,26 +27,49 @@ number-take_lt (suc k) (x ∷ xs) h =
     let l : low_first (take k xs) < 256 ^ k = number-take_lt k xs (λ i. h (suc i)) in
     omega (arith, h 0)
 
--- ---- reading from the highest byte down: k bytes are read, from at + (8 - k) on
 module _ (b : List ℕ) (at k : ℕ) where
   pub number_small : ((i : ℕ) → get_or b i 0 < 256) → k ≤ 7 → low_first (take k (drop (at + (8 - k)) b)) < 0x100_0000_0000_0000
   number_small h l =
       lt_of_lt_of_le (number-take_lt k (drop (at + (8 - k)) b) (λ i. rw get_or-drop (h (at + (8 - k) + i)))) (pow-le-pow_right {n = 256} (omega arith) {i = k} {j = 7} l)
 
-  pub number-turn : (v x : ℕ) → k < 8 → at + 8 ≤ length b → v ≡ low_first (take k (drop (at + (8 - k)) b)) → x ≡ get_or b (at + (7 - k)) 0
-      → x + 256 * v ≡ low_first (take (k + 1) (drop (at + (8 - (k + 1))) b))
-  unfolding low_first
-  number-turn v x h l e g =
-      let p : suc (at + (8 - suc k)) ≡ at + (8 - k) = omega arith in
-      let q : at + (7 - k) ≡ at + (8 - suc k) = omega arith in
-      let i : at + (8 - suc k) < length b = omega arith in
-      rw (add-one k, take_more b k (at + (8 - suc k)) i, p, g, e, q)
+-- ---- the number that the library reads from bytes
+worth_more : (k g : ℕ) → byte_worth (suc k) g ≡ 256 * byte_worth k g
+worth_more zero g = omega arith
+worth_more (suc k) g = rw (pow-suc 256 (suc k)) (grind arith)
 
-  pub number-end : (v : ℕ) → k ≤ 8 → 8 ≤ k → v ≡ low_first (take k (drop (at + (8 - k)) b)) → v ≡ low_first (take 8 (drop at b))
-  number-end v h g e =
-      let p : k ≡ 8 = omega arith in
-      let q : at + 0 ≡ at = omega arith in
-      rw (p, q) at e
+low_first-more : (k : ℕ) (xs : List ℕ) → low_first (take (suc k) xs) ≡ low_first (take k xs) + byte_worth k (get_or xs k 0)
+unfolding low_first
+low_first-more zero [] = refl
+low_first-more zero (x ∷ xs) = omega arith
+low_first-more (suc k) [] = omega arith
+low_first-more (suc k) (x ∷ xs) = omega (arith, low_first-more k xs, worth_more k (get_or xs k 0))
+
+sum_is : (k : ℕ) (xs : List ℕ) → sum_through (λ i. byte_worth i (get_or xs i 0)) k ≡ low_first (take (suc k) xs)
+unfolding low_first
+sum_is zero [] = refl
+sum_is zero (x ∷ xs) = omega arith
+sum_is (suc k) xs = rw (sum_is k xs) (sym (low_first-more (suc k) xs))
+
+pub eight-read : (xs : List ℕ) → length xs ≡ 8 → from_le_bytes w64 xs ≡ low_first xs
+eight-read xs h = sum_is 7 xs ∙ ap low_first (take_all 8 xs (omega arith))
+
+pub four-read : (xs : List ℕ) → length xs ≡ 4 → from_le_bytes w32 xs ≡ low_first xs
+four-read xs h = sum_is 3 xs ∙ ap low_first (take_all 4 xs (omega arith))
+
+-- .. and the bytes that it writes of a number
+byte_is : (i v : ℕ) → byte_at i v ≡ v / 256 ^ i % 256
+byte_is zero v = omega arith
+byte_is (suc i) v = refl
+
+written_from : (i k v : ℕ) → bytes_low_first i k v ≡ bytes k (v / 256 ^ i)
+unfolding bytes
+written_from i zero v = refl
+written_from i (suc k) v =
+    let e : v / 256 ^ i / 256 ≡ v / 256 ^ suc i = div-div-eq-div-mul v (256 ^ i) 256 ∙ ap (λ (n : ℕ). v / n) (sym (pow-suc 256 i)) in
+    rw (byte_is, e, written_from (suc i) k v) refl
+
+pub eight-written : (v : ℕ) → to_le_bytes w64 v ≡ bytes 8 v
+eight-written v = let e : v / 1 ≡ v = omega arith in written_from 0 8 v ∙ ap (bytes 8) e
 
 -- ---- a pattern is finite where the exponent's field is not all ones
 odd_finite : (d : ℕ) (s : Bool) (q k l : ℕ) → finite (odd d s q k l) ≡ true

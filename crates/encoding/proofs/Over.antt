@@ -1,10 +1,11 @@
 -- Laws of bytes written into a buffer.
 use mathlib.Core.Path.{◌≡◌, sym, ap, ◌∙◌}
-use mathlib.Core.List.{List, [], ◌∷◌, ◌++◌, append-nil}
+use mathlib.Core.List.{List, [], ◌∷◌, ◌++◌, append-nil, append_assoc}
 use Prim.Native.Nat.{ℕ, suc, ◌+◌, ◌≤◌, ◌<◌}
 use native.Mathlib.Omega.{arith}
 use lib.ListN.{length, set, take, drop, length-append, drop_of_length-le}
-use lib.Seq.{sets, sets-eq, length-sets, paste-zero, take-append_seam}
+use borrow.Rule.Slice.PartMut.{put_mid}
+use lib.Seq.{sets, sets-eq, length-sets, paste-zero, take-append_seam, drop-drop}
 use Rattle.encoding.specs.Writing.{over}
 
 -- byte by byte
@@ -33,6 +34,11 @@ over-more out at xs ys h =
     ∙ over-sets (sets out at xs) (at + length xs) ys (omega arith)
     ∙ sets_more out at xs ys
     ∙ sym (over-sets out at (xs ++ ys) (omega (arith, length-append xs ys)))
+
+-- a part of the buffer was written
+pub over-part : (out : List ℕ) (at k : ℕ) (xs : List ℕ) → length xs ≡ k → put_mid at k out xs ≡ over out at xs
+unfolding over
+over-part out at k xs h = rw (drop-drop, ← h) (sym (append_assoc (take at out) xs (drop (at + length xs) out)))
 
 -- two writers in turn
 pub over-then : (out a r : List ℕ) (at p next m n : ℕ) (xs ys : List ℕ) → length xs ≡ m → length ys ≡ n → at + (m + n) ≤ length out

@@ -1,7 +1,7 @@
 -- Turns of the writing loops: what is left, written over what there is, stays the same.
 use mathlib.Core.Path.{◌≡◌, sym, ◌∙◌}
 use mathlib.Core.List.{List, ◌++◌}
-use Prim.Native.Nat.{ℕ, suc, ◌+◌, ◌*◌, ◌-◌, ◌/◌, ◌%◌, ◌≤◌, ◌<◌}
+use Prim.Native.Nat.{ℕ, suc, ◌+◌, ◌*◌, ◌-◌, ◌≤◌, ◌<◌}
 use native.Mathlib.Numerals.{add-one}
 use native.Mathlib.Omega.{arith}
 use lib.ListN.{length, set, drop, get_or, length-drop, drop_of_length-le}
@@ -11,18 +11,6 @@ use Rattle.encoding.specs.Bytes.{bytes, double_bytes}
 use Rattle.encoding.specs.Writing.{over}
 use Rattle.encoding.proofs.ByteLaws.{length-bytes, length-content}
 use Rattle.encoding.proofs.Over.{over_none, over-more, over-rest}
-
-pub bytes-turn : (out all : List ℕ) (at i rest : ℕ) → i < 8 → at + 8 ≤ length out
-    → over out (at + i) (bytes (8 - i) rest) ≡ all → over (set out (at + i) (rest % 256)) (at + (i + 1)) (bytes (8 - (i + 1)) (rest / 256)) ≡ all
-unfolding bytes
-bytes-turn out all at i rest h f e =
-    let k : 8 - i ≡ suc (8 - (i + 1)) = omega arith in
-    let n : at + (i + 1) ≡ at + i + 1 = omega arith in
-    rw n (over-rest out (at + i) (rest % 256) (bytes (8 - (i + 1)) (rest / 256)) (omega (arith, length-bytes (8 - (i + 1)) (rest / 256))) ∙ (rw k at e))
-
-pub bytes-end : (out all : List ℕ) (at i rest : ℕ) → 8 ≤ i → over out (at + i) (bytes (8 - i) rest) ≡ all → out ≡ all
-unfolding bytes
-bytes-end out all at i rest h e = let k : 8 - i ≡ 0 = omega arith in sym (over_none out (at + i)) ∙ (rw k at e)
 
 pub order-turn : (out all p : List ℕ) (at k v : ℕ) → k < length p → at + length p ≤ length out → v ≡ get_or p k 0
     → over out (at + k) (drop k p) ≡ all → over (set out (at + k) v) (at + (k + 1)) (drop (k + 1) p) ≡ all

@@ -1,8 +1,8 @@
 -- The checks of lengths in bytes, eight for each double and four for each contract number, and of contract numbers.
 use Rattle.std.specs.Prelude.{List, not, ℕ, ◌*◌, ◌%◌, eqb, length}
 use Rattle.arithmetic.specs.Outcome.{refuse, ◌then◌}
-use Rattle.arithmetic.specs.declared.outcome.Outcome.{Outcome}
-use Rattle.arithmetic.specs.declared.outcome.Outcome.TheVariants.{MatrixLength, NumbersLength}
+use Rattle.arithmetic.specs.Outcome.{Outcome}
+use Rattle.arithmetic.specs.declared.refusal.Refusal.TheVariants.{MatrixLength, NumbersLength}
 use Rattle.matrix.specs.Checks.{check_distinct}
 use Rattle.encoding.specs.Bytes.{numbers}
 

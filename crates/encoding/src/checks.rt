@@ -1,4 +1,6 @@
 // The checks made on bytes, in the order of their refusals' numbers: eight bytes for each double, four for each contract number.
+// They stand beside those of crates/matrix, and are not one with them: of bytes that may be no finite double no double is made, so an entry
+// is tested by its pattern, and a trait over both would have a method for each difference.
 ghost use Rattle.std.specs.Prelude.{◌≡◌, ◌*◌, ◌/◌, ◌<◌, length};
 ghost use Rattle.std.specs.Float.{binary64};
 ghost use Rattle.std.specs.Float.Ieee.{of_bits};
@@ -7,61 +9,49 @@ ghost use Rattle.matrix.specs.Checks.{check_buffer, check_indices, check_finite,
 ghost use Rattle.encoding.specs.Bytes.{doubles, numbers};
 ghost use Rattle.encoding.specs.Checks.{check_whole, check_entries, check_number_bytes, number_byte_checks};
 
-use crate::read::{read_contract_number, read_number, whole};
-use arithmetic::outcome::Outcome;
+use crate::read::{read_contract_number, read_number};
+use arithmetic::refusal::{Refusal, refuse};
 use matrix::checks;
 
 // 4: a whole number of doubles.
-pub fn check_whole(len: usize) -> Outcome
+pub fn check_whole(len: usize) -> Result<(), Refusal>
     ensures { result ≡ check_whole len }
 {
-    if len % 8 != 0 {
-        return Outcome::MatrixLength;
-    }
-    Outcome::Complete
+    refuse(len % 8 != 0, Refusal::MatrixLength)
 }
 
 // 4: n rows of n doubles.
-pub fn check_entries(n: usize, len: usize) -> Outcome
+pub fn check_entries(n: usize, len: usize) -> Result<(), Refusal>
     ensures { result ≡ check_entries n len }
 {
-    if len % 8 != 0 {
-        return Outcome::MatrixLength;
-    }
+    refuse(len % 8 != 0, Refusal::MatrixLength)?;
     checks::check_matrix(n, len / 8)
 }
 
 // 5: a buffer for n doubles.
-pub fn check_list_buffer(n: usize, len: usize) -> Outcome
+pub fn check_list_buffer(n: usize, len: usize) -> Result<(), Refusal>
     ensures { result ≡ check_buffer (8 * n) len }
 {
-    if len % 8 != 0 {
-        return Outcome::BufferLength;
-    }
+    refuse(len % 8 != 0, Refusal::BufferLength)?;
     checks::check_buffer(n, len / 8)
 }
 
 // 5: a buffer for n rows of n doubles.
-pub fn check_matrix_buffer(n: usize, len: usize) -> Outcome
+pub fn check_matrix_buffer(n: usize, len: usize) -> Result<(), Refusal>
     ensures { result ≡ check_buffer (8 * (n * n)) len }
 {
-    if len % 8 != 0 {
-        return Outcome::BufferLength;
-    }
+    refuse(len % 8 != 0, Refusal::BufferLength)?;
     checks::check_square_buffer(n, len / 8)
 }
 
 // 6: one byte for each index.
-pub fn check_indices(n: usize, idxs: &[u8]) -> Outcome
+pub fn check_indices(n: usize, idxs: &[u8]) -> Result<(), Refusal>
     ensures { result ≡ check_indices n idxs.now }
 {
-    let len = idxs.len();
-    for k in 0..len {
-        if n <= whole(idxs[k]) {
-            return Outcome::IndexOutOfRange { position: k };
-        }
+    match idxs.iter().position(|index| n <= usize::from(*index)) {
+        Some(position) => Err(Refusal::IndexOutOfRange { position }),
+        None => Ok(()),
     }
-    Outcome::Complete
 }
 
 // The exponent's field isn't all ones.
@@ -71,84 +61,71 @@ pub fn finite_pattern(v: u64) -> bool
     v % 0x8000_0000_0000_0000 / 0x10_0000_0000_0000 != 2047
 }
 
-// The position of the first double that is not finite, or their count. No double is made.
+// The position of the first double that is not finite, or their count, as its definition answers. No double is made.
 fn first_not_finite(b: &[u8]) -> usize
     ensures { result ≡ first_not_finite (doubles b.now) }
 {
     let count = b.len() / 8;
-    for k in 0..count {
-        if !finite_pattern(read_number(b, 8 * k)) {
-            return k;
-        }
-    }
-    count
+    (0..count)
+        .position(|k| !finite_pattern(read_number(b, 8 * k)))
+        .unwrap_or(count)
 }
 
 // 7: in rows of n.
-pub fn check_finite(n: usize, b: &[u8]) -> Outcome
+pub fn check_finite(n: usize, b: &[u8]) -> Result<(), Refusal>
     ensures { result ≡ check_finite n (doubles b.now) }
 {
     let k = first_not_finite(b);
     if k < b.len() / 8 {
-        return checks::not_finite_at(n, k);
+        return Err(checks::not_finite_at(n, k));
     }
-    Outcome::Complete
+    Ok(())
 }
 
 // 12: n contract numbers.
-pub fn check_number_bytes(n: usize, len: usize) -> Outcome
+pub fn check_number_bytes(n: usize, len: usize) -> Result<(), Refusal>
     ensures { result ≡ check_number_bytes n len }
 {
-    if len % 4 != 0 {
-        return Outcome::NumbersLength;
-    }
+    refuse(len % 4 != 0, Refusal::NumbersLength)?;
     checks::check_numbers(n, len / 4)
 }
 
-// The first position before k with the number at k, or k.
+// The first position before k with the number at k, or k, as its definition answers.
 fn first_same(b: &[u8], k: usize) -> usize
     requires { k < length b.now / 4 }
     ensures { result ≡ first_same (numbers b.now) k }
 {
     let number = read_contract_number(b, 4 * k);
-    for i in 0..k {
-        if read_contract_number(b, 4 * i) == number {
-            return i;
-        }
-    }
-    k
+    (0..k)
+        .position(|i| read_contract_number(b, 4 * i) == number)
+        .unwrap_or(k)
 }
 
 // 13: by position among the numbers.
-pub fn check_distinct(b: &[u8]) -> Outcome
+pub fn check_distinct(b: &[u8]) -> Result<(), Refusal>
     ensures { result ≡ check_distinct (numbers b.now) }
 {
     let count = b.len() / 4;
     for k in 0..count {
         if first_same(b, k) < k {
-            return Outcome::NumberRepeated { position: k };
+            return Err(Refusal::NumberRepeated { position: k });
         }
     }
-    Outcome::Complete
+    Ok(())
 }
 
 // 12, then 13. Numbers of a wrong length aren't read, however many there are.
-pub fn number_byte_checks(n: usize, b: &[u8]) -> Outcome
+pub fn number_byte_checks(n: usize, b: &[u8]) -> Result<(), Refusal>
     ensures { result ≡ number_byte_checks n b.now }
 {
-    let lengths = check_number_bytes(n, b.len());
-    if !lengths.complete() {
-        return lengths;
-    }
+    check_number_bytes(n, b.len())?;
     check_distinct(b)
 }
 
 // 14: n doubles.
-pub fn check_double_list(n: usize, len: usize) -> Outcome
+pub fn check_double_list(n: usize, len: usize) -> Result<(), Refusal>
     ensures { result ≡ check_list (8 * n) len }
 {
-    if len % 8 != 0 {
-        return Outcome::ListLength;
-    }
+    refuse(len % 8 != 0, Refusal::ListLength)?;
     checks::check_list(n, len / 8)
 }

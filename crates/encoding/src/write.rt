@@ -16,21 +16,14 @@ pub fn write_byte(out: &mut [u8], at: usize, v: u8) -> usize
 pub fn clear_bytes(b: &mut [u8])
     ensures { b.new ≡ replicate (length b.old) 0 }
 {
-    let n = b.len();
-    for i in 0..n {
-        b[i] = 0;
-    }
+    b.fill(0);
 }
 
 pub fn write_number(out: &mut [u8], at: usize, v: u64) -> usize
     requires { at + 8 ≤ length out.old }
     ensures { (out.new ≡ over out.old at (bytes 8 v)) × (result ≡ at + 8) }
 {
-    let mut rest = v;
-    for i in 0..8usize {
-        out[at + i] = (rest % 256) as u8;
-        rest = rest / 256;
-    }
+    out[at..at + 8].copy_from_slice(&v.to_le_bytes());
     at + 8
 }
 
@@ -39,10 +32,9 @@ pub fn write_doubles(out: &mut [u8], at: usize, x: &[f64]) -> usize
     requires each_finite { EachFinite x.now }
     ensures { (out.new ≡ over out.old at (double_bytes x.now)) × (result ≡ at + 8 * length x.now) }
 {
-    let n = x.len();
     let mut next = at;
-    for k in 0..n {
-        next = write_number(out, next, f64::to_bits(x[k]));
+    for v in x {
+        next = write_number(out, next, v.to_bits());
     }
     next
 }
@@ -52,9 +44,8 @@ pub fn write_order(out: &mut [u8], at: usize, p: &[usize]) -> usize
     requires all_below { AllBelow 256 p.now }
     ensures { Wrote p.now at out.old out.new result }
 {
-    let n = p.len();
-    for k in 0..n {
-        out[at + k] = p[k] as u8;
+    for (k, index) in p.iter().enumerate() {
+        out[at + k] = *index as u8;
     }
-    at + n
+    at + p.len()
 }

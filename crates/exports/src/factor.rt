@@ -5,43 +5,38 @@ ghost use Rattle.answer_record.specs.AnswerRecord.{step_byte};
 ghost use Rattle.byte_factor.specs.Factor.{factor_bytes_call, factor_numbered_bytes_call};
 ghost use Rattle.exports.specs.Exports.{factorization, factor_bytes_export, factor_doubles_export};
 
-use crate::refusal::Refusal;
-use methods::decomposition::{Decomposition, Mark};
+use crate::status::Status;
+use methods::decomposition::Decomposition;
 use modcholesky::calls::{factor, factor_numbered};
 
 // The tied step and the phase-two step, 255 for none, and how many of the diagonal roots are inexact.
 #[repr(C)]
 #[derive(Clone, Copy)]
 pub struct Factorization {
-    pub refusal: Refusal,
+    pub refusal: Status,
     pub tied: usize,
     pub phase2: usize,
     pub inexact: usize,
 }
 
-impl Factorization {
-    fn of(answer: Decomposition) -> Factorization
-        ensures { result ≡ factorization answer }
-    {
-        let outcome = answer.outcome;
-        let tied = answer.tied;
-        let phase2 = answer.phase2;
+impl From<Decomposition> for Factorization {
+    ghost from_gives = { λ answer given. given ≡ factorization answer };
+
+    fn from(answer: Decomposition) -> Factorization {
         Factorization {
-            refusal: Refusal::of(outcome),
-            tied: step_number(tied),
-            phase2: step_number(phase2),
+            refusal: Status::from(answer.outcome),
+            tied: step_number(answer.tied),
+            phase2: step_number(answer.phase2),
             inexact: answer.inexact,
         }
     }
 }
 
-fn step_number(mark: Mark) -> usize
+// By the C interface.
+fn step_number(mark: Option<usize>) -> usize
     ensures { result ≡ step_byte mark }
 {
-    match mark {
-        Mark::Never => 255,
-        Mark::Step(j) => j,
-    }
+    mark.unwrap_or(255)
 }
 
 #[unsafe(no_mangle)]
@@ -56,7 +51,7 @@ pub extern "C" fn millracer_factor_bytes(
 ) -> Factorization
     ensures { record { factorization = result; l = l.new; work = work.new; e = e.new; p = p.new } ≡ factor_bytes_export (factor_bytes_call method n a.now l.old work.old e.old p.old) }
 {
-    Factorization::of(byte_factor::factor(method, a, n, l, work, e, p))
+    Factorization::from(byte_factor::factor(method, a, n, l, work, e, p))
 }
 
 // With a number of four bytes for each contract, by which ties are settled.
@@ -73,7 +68,7 @@ pub extern "C" fn millracer_factor_numbered_bytes(
 ) -> Factorization
     ensures { record { factorization = result; l = l.new; work = work.new; e = e.new; p = p.new } ≡ factor_bytes_export (factor_numbered_bytes_call method n a.now numbers.now l.old work.old e.old p.old) }
 {
-    Factorization::of(byte_factor::factor_numbered(method, a, n, numbers, l, work, e, p))
+    Factorization::from(byte_factor::factor_numbered(method, a, n, numbers, l, work, e, p))
 }
 
 // The same on slices of doubles, for callers that have them.
@@ -89,7 +84,7 @@ pub extern "C" fn millracer_factor_doubles(
 ) -> Factorization
     ensures { record { factorization = result; l = l.new; work = work.new; e = e.new; p = p.new } ≡ factor_doubles_export (factor_call method n a.now l.old work.old e.old p.old) }
 {
-    Factorization::of(factor(method, a, n, l, work, e, p))
+    Factorization::from(factor(method, a, n, l, work, e, p))
 }
 
 #[unsafe(no_mangle)]
@@ -105,5 +100,5 @@ pub extern "C" fn millracer_factor_numbered_doubles(
 ) -> Factorization
     ensures { record { factorization = result; l = l.new; work = work.new; e = e.new; p = p.new } ≡ factor_doubles_export (factor_numbered_call method n a.now numbers.now l.old work.old e.old p.old) }
 {
-    Factorization::of(factor_numbered(method, a, n, numbers, l, work, e, p))
+    Factorization::from(factor_numbered(method, a, n, numbers, l, work, e, p))
 }

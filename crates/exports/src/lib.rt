@@ -4,6 +4,6 @@
 pub mod factor;
 pub mod helpers;
 pub mod records;
-pub mod refusal;
 pub mod root;
 pub mod solving;
+pub mod status;

@@ -3,24 +3,23 @@ ghost use Rattle.std.specs.Prelude.{◌≡◌};
 ghost use Rattle.record.specs.Record.{record_call};
 ghost use Rattle.exports.specs.Exports.{written, record_export};
 
-use crate::refusal::Refusal;
+use crate::status::Status;
 use record::answer::{RecordAnswer, answer as answer_to};
 
 // How the call ended, and the answer's length.
 #[repr(C)]
 #[derive(Clone, Copy)]
 pub struct Written {
-    pub refusal: Refusal,
+    pub refusal: Status,
     pub length: usize,
 }
 
-impl Written {
-    fn of(answer: RecordAnswer) -> Written
-        ensures { result ≡ written answer }
-    {
-        let outcome = answer.outcome;
+impl From<RecordAnswer> for Written {
+    ghost from_gives = { λ answer given. given ≡ written answer };
+
+    fn from(answer: RecordAnswer) -> Written {
         Written {
-            refusal: Refusal::of(outcome),
+            refusal: Status::from(answer.outcome),
             length: answer.len,
         }
     }
@@ -31,5 +30,5 @@ impl Written {
 pub extern "C" fn millracer_record(b: &[u8], answer: &mut [u8]) -> Written
     ensures { record { written = result; answer = answer.new } ≡ record_export (record_call b.now answer.old) }
 {
-    Written::of(answer_to(b, answer))
+    Written::from(answer_to(b, answer))
 }

@@ -4,7 +4,7 @@ ghost use Rattle.solve.specs.Substitution.{solve_call};
 ghost use Rattle.byte_solve.specs.Solve.{solve_bytes_call};
 ghost use Rattle.exports.specs.Exports.{solve_bytes_export, solve_doubles_export};
 
-use crate::refusal::Refusal;
+use crate::status::Status;
 use solve::substitution::solve;
 
 #[unsafe(no_mangle)]
@@ -14,10 +14,10 @@ pub extern "C" fn millracer_solve_bytes(
     p: &[u8],
     b: &[u8],
     y: &mut [u8],
-) -> Refusal
+) -> Status
     ensures { record { refusal = result; y = y.new } ≡ solve_bytes_export (solve_bytes_call n l.now p.now b.now y.old) }
 {
-    Refusal::of(byte_solve::solve(l, n, p, b, y))
+    Status::from(byte_solve::solve(l, n, p, b, y))
 }
 
 // The same on slices of doubles, for callers that have them.
@@ -28,8 +28,8 @@ pub extern "C" fn millracer_solve_doubles(
     p: &[usize],
     b: &[f64],
     y: &mut [f64],
-) -> Refusal
+) -> Status
     ensures { record { refusal = result; y = y.new } ≡ solve_doubles_export (solve_call n l.now p.now b.now y.old) }
 {
-    Refusal::of(solve(l, n, p, b, y))
+    Status::from(solve(l, n, p, b, y))
 }

@@ -3,7 +3,7 @@
 #![tactic(auto)]
 
 use answer_record::write::LONGEST_ANSWER;
-use arithmetic::outcome::Outcome;
+use arithmetic::refusal::Refusal;
 use reading::read_full;
 use record::answer::answer;
 use record::cursor::{Stage, walk};
@@ -24,34 +24,24 @@ fn due(field: usize) -> &'static str {
     }
 }
 
-// The tag that stands where a walk stopped.
-fn found(stage: Stage) -> usize {
-    match stage {
-        Stage::WrongTag { field: _, tag } => tag,
-        _ => 0,
-    }
-}
-
 // What is broken in a record's form: refusals 1, 10 and 11.
-fn say_fault(rt: &impl Eprint, input: &[u8], outcome: Outcome) {
-    let number = outcome.number();
-    let field = outcome.place().row;
-    if number == 1 {
-        say(
+fn say_fault(rt: &impl Eprint, stage: Stage, refusal: Refusal) {
+    match (refusal, stage) {
+        (Refusal::MalformedRecord, _) => say(
             rt,
             "the record is too long, or n or method is not one byte long, or bytes follow the last field",
-        );
-    }
-    if number == 10 {
-        say(rt, format_args!("the transfer was cut in field {field}"));
-    }
-    if number == 11 {
-        let tag = found(walk(input).stage);
-        let due = due(field);
-        say(
-            rt,
-            format_args!("field {field} has tag {tag:02x}, {due} was due"),
-        );
+        ),
+        (Refusal::FieldPastEnd { field }, _) => {
+            say(rt, format_args!("the transfer was cut in field {field}"))
+        }
+        (Refusal::TagNotDue { field }, Stage::WrongTag { tag, .. }) => {
+            let due = due(field);
+            say(
+                rt,
+                format_args!("field {field} has tag {tag:02x}, {due} was due"),
+            )
+        }
+        _ => {}
     }
 }
 
@@ -64,6 +54,7 @@ fn main(rt: HostRuntime) {
     if rt.write_all(&out[..written.len]).is_err() {
         say(&rt, "the answer could not be written");
     }
-    let outcome = written.outcome;
-    say_fault(&rt, &input[..len], outcome);
+    if let Err(refusal) = written.outcome {
+        say_fault(&rt, walk(&input[..len]).stage, refusal);
+    }
 }

@@ -1,7 +1,7 @@
 // The steps of src/gmw81.rs: Gill, Murray and Wright 1981.
 #![tactic(auto)]
 
-ghost use Rattle.std.specs.Prelude.{◌≡◌, List, ◌+◌, ◌-◌, ◌*◌, ◌<◌, ◌≤◌, length, get_or, Float};
+ghost use Rattle.std.specs.Prelude.{◌≡◌, List, ◌+◌, ◌*◌, ◌<◌, ◌≤◌, length, get_or, Float};
 ghost use Rattle.std.specs.Float.{nan};
 ghost use Rattle.std.specs.Float.Ieee.Scale.{finite};
 ghost use Rattle.arithmetic.specs.All.{all};
@@ -14,7 +14,6 @@ ghost use Rattle.matrix.specs.Plain.{AllBelow};
 ghost use Rattle.matrix.specs.Table.{table};
 ghost use Rattle.methods.specs.Gmw81.{Stepped, Finished, fold_off_diagonal, fold_row, off_diagonal_max, delta_of, beta_of, state, start, divide_row, dot, column, theta_of, d_of, update_diagonal, stored_finite, step_at, step, dout_of, inexact_roots, unit_lower, product, scaled_finite};
 ghost use Rattle.methods.specs.Progress.{stores};
-ghost use Rattle.methods.specs.declared.decomposition.Mark.TheVariants.{Never};
 
 use arithmetic::double;
 use arithmetic::double::{abs, finite, max, square};
@@ -23,31 +22,39 @@ use matrix::checks::list_finite;
 use matrix::entries::{clear, get, put};
 use methods::gmw81::StepValues;
 use methods::progress::{Progress, Stores, one_if};
-use statements::{both, larger_magnitude};
+use statements::larger_magnitude;
+
+// Each d[j] is at least delta, and so large that column j of L times its root stays within beta, but for rounding.
+#[derive(Clone, Copy)]
+pub struct Bounds {
+    pub delta: f64,
+    pub beta: f64,
+}
 
 // ---- before the steps
 
+#[tactic(auto, unfolding(methods::specs::Gmw81::fold_off_diagonal))]
 fn fold_off_diagonal(l: &[f64], n: usize, i: usize, k: usize, acc: f64) -> f64
     requires square { Square n l.now }
     requires i_lt_n { (i < n) × (k < n) }
     ensures { result ≡ fold_off_diagonal n l.now i k acc }
 {
     if i == k {
-        return acc;
+        acc
+    } else {
+        larger_magnitude(acc, get(l, n, i, k))
     }
-    larger_magnitude(acc, get(l, n, i, k))
 }
 
-fn fold_row(l: &[f64], n: usize, i: usize, acc: f64) -> f64
+fn fold_row(l: &[f64], n: usize, i: usize, mut acc: f64) -> f64
     requires square { Square n l.now }
     requires i_lt_n { i < n }
     ensures { result ≡ fold_row n l.now i acc }
 {
-    let mut out = acc;
     for k in 0..n {
-        out = fold_off_diagonal(l, n, i, k, out);
+        acc = fold_off_diagonal(l, n, i, k, acc);
     }
-    out
+    acc
 }
 
 pub fn off_diagonal_max(l: &[f64], n: usize) -> f64
@@ -61,12 +68,14 @@ pub fn off_diagonal_max(l: &[f64], n: usize) -> f64
     acc
 }
 
+#[tactic(auto, unfolding(methods::specs::Gmw81::delta_of))]
 pub fn delta_of(diag_max: f64, off_diag_max: f64) -> f64
     ensures { result ≡ delta_of diag_max off_diag_max }
 {
     double::EPSILON * max(1.0, diag_max + off_diag_max)
 }
 
+#[tactic(auto, unfolding(methods::specs::Gmw81::beta_of, methods::specs::Gmw81::count))]
 pub fn beta_of(n: usize, diag_max: f64, off_diag_max: f64) -> f64
     requires { n ≤ 48 }
     ensures { result ≡ beta_of n diag_max off_diag_max }
@@ -101,7 +110,7 @@ pub fn begin(
     requires d_len { (length d.old ≡ n) × (length e.old ≡ n) × (length p.old ≡ n) }
     ensures { state l.new c.new d.new e.new p.new result ≡ start n a.now }
 {
-    statements::copy(a, l);
+    l.copy_from_slice(a);
     clear(c);
     start_diagonal(a, c, n);
     clear(d);
@@ -131,7 +140,7 @@ fn dot(l: &[f64], c: &[f64], n: usize, j: usize, i: usize) -> f64
 {
     let mut sum = 0.0;
     for s in 0..j {
-        sum = sum + get(l, n, j, s) * get(c, n, i, s);
+        sum += get(l, n, j, s) * get(c, n, i, s);
     }
     sum
 }
@@ -154,13 +163,13 @@ fn theta_of(c: &[f64], n: usize, j: usize) -> f64
     ensures { result ≡ theta_of n j c.now }
 {
     let mut acc = 0.0;
-    let a = j + 1;
-    for i in a..n {
+    for i in j + 1..n {
         acc = larger_magnitude(acc, get(c, n, i, j));
     }
     acc
 }
 
+#[tactic(auto, unfolding(methods::specs::Gmw81::d_of))]
 fn d_of(cjj: f64, theta: f64, beta: f64, delta: f64) -> f64
     ensures { result ≡ d_of cjj theta beta delta }
 {
@@ -172,13 +181,14 @@ fn update_diagonal(c: &mut [f64], n: usize, j: usize, dj: f64)
     requires j_lt_n { j < n }
     ensures { c.new ≡ update_diagonal n j dj c.old }
 {
-    let a = j + 1;
-    for i in a..n {
+    for i in j + 1..n {
         let v = get(c, n, i, i) - square(get(c, n, i, j)) / dj;
         put(c, n, i, i, v);
     }
 }
 
+// Whether row j before its diagonal, column j from it on and the diagonal after j are finite: a loop each, since one loop over a closure
+// would need a contract of what the closure gives. Without an early end, so that the machine can test several at once.
 fn row_before_finite(l: &[f64], n: usize, j: usize) -> bool
     requires square { Square n l.now }
     requires j_lt_n { j < n }
@@ -186,7 +196,7 @@ fn row_before_finite(l: &[f64], n: usize, j: usize) -> bool
 {
     let mut ok = true;
     for s in 0..j {
-        ok = both(ok, finite(get(l, n, j, s)));
+        ok &= finite(get(l, n, j, s));
     }
     ok
 }
@@ -198,7 +208,7 @@ fn column_finite(c: &[f64], n: usize, j: usize) -> bool
 {
     let mut ok = true;
     for i in j..n {
-        ok = both(ok, finite(get(c, n, i, j)));
+        ok &= finite(get(c, n, i, j));
     }
     ok
 }
@@ -209,24 +219,24 @@ fn diagonal_finite(c: &[f64], n: usize, j: usize) -> bool
     ensures { result ≡ all (j + 1) n (λ i. finite (at n c.now i i)) }
 {
     let mut ok = true;
-    let a = j + 1;
-    for i in a..n {
-        ok = both(ok, finite(get(c, n, i, i)));
+    for i in j + 1..n {
+        ok &= finite(get(c, n, i, i));
     }
     ok
 }
 
+#[tactic(auto, unfolding(methods::specs::Gmw81::stored_finite))]
 fn stored_finite(l: &[f64], c: &[f64], n: usize, j: usize, dj: f64, ej: f64) -> bool
     requires square { Square n l.now }
     requires square_2 { Square n c.now }
     requires j_lt_n { j < n }
     ensures { result ≡ stored_finite n j l.now c.now dj ej }
 {
-    let lists = both(
-        both(row_before_finite(l, n, j), column_finite(c, n, j)),
-        diagonal_finite(c, n, j),
-    );
-    both(both(lists, finite(dj)), finite(ej))
+    row_before_finite(l, n, j)
+        & column_finite(c, n, j)
+        & diagonal_finite(c, n, j)
+        & finite(dj)
+        & finite(ej)
 }
 
 // The statements between the pivot and the stores to d and e.
@@ -235,22 +245,21 @@ fn step_values(
     c: &mut [f64],
     d: &[f64],
     n: usize,
-    delta: f64,
-    beta: f64,
+    bounds: Bounds,
     j: usize,
     max_idx: usize,
 ) -> StepValues
     requires square { Square n l.old }
     requires square_2 { Square n c.old }
     requires max_idx_bound { (j + max_idx < n) × (length d.now ≡ n) }
-    ensures { Stepped n delta beta j max_idx l.old c.old d.now l.new c.new result }
+    ensures { Stepped n bounds.delta bounds.beta j max_idx l.old c.old d.now l.new c.new result }
 {
     statements::pivot_matrix(c, n, j, max_idx);
     statements::pivot_matrix(l, n, j, max_idx);
     divide_row(c, d, l, n, j);
     column(l, c, n, j);
     let theta = theta_of(c, n, j);
-    let dj = d_of(get(c, n, j, j), theta, beta, delta);
+    let dj = d_of(get(c, n, j, j), theta, bounds.beta, bounds.delta);
     update_diagonal(c, n, j, dj);
     let ej = dj - get(c, n, j, j);
     StepValues {
@@ -267,8 +276,7 @@ fn step_at(
     e: &mut [f64],
     p: &mut [usize],
     n: usize,
-    delta: f64,
-    beta: f64,
+    bounds: Bounds,
     j: usize,
     max_idx: usize,
     tie: bool,
@@ -278,12 +286,12 @@ fn step_at(
     requires square_2 { Square n c.old }
     requires d_len { (length d.old ≡ n) × (length e.old ≡ n) × (length p.old ≡ n) }
     requires max_idx_bound { j + max_idx < n }
-    ensures { state l.new c.new d.new e.new p.new result ≡ step_at n delta beta j max_idx tie (state l.old c.old d.old e.old p.old r) }
+    ensures { state l.new c.new d.new e.new p.new result ≡ step_at n bounds.delta bounds.beta j max_idx tie (state l.old c.old d.old e.old p.old r) }
 {
-    let v = step_values(l, c, d, n, delta, beta, j, max_idx);
+    let v = step_values(l, c, d, n, bounds, j, max_idx);
     d[j] = v.d;
     e[j] = v.e;
-    statements::pivot_order(p, j, v.pivot);
+    statements::pivot_list(p, j, v.pivot);
     let ok = stored_finite(l, c, n, j, v.d, v.e);
     r.searched(tie, j).stored(ok, j)
 }
@@ -297,8 +305,7 @@ fn step(
     p: &mut [usize],
     diag: &mut [f64],
     n: usize,
-    delta: f64,
-    beta: f64,
+    bounds: Bounds,
     j: usize,
     r: Progress,
 ) -> Progress
@@ -306,13 +313,13 @@ fn step(
     requires square_2 { Square n c.old }
     requires d_len { (length d.old ≡ n) × (length e.old ≡ n) × (length p.old ≡ n) × (length diag.old ≡ n) }
     requires j_lt_n { j < n }
-    ensures { state l.new c.new d.new e.new p.new result ≡ step numbers.now n delta beta j (state l.old c.old d.old e.old p.old r) }
+    ensures { state l.new c.new d.new e.new p.new result ≡ step numbers.now n bounds.delta bounds.beta j (state l.old c.old d.old e.old p.old r) }
 {
     if r.stopped() {
         return r;
     }
     let f = statements::search_diagonal(numbers, p, true, c, n, j, diag);
-    step_at(l, c, d, e, p, n, delta, beta, j, f.index, f.tied, r)
+    step_at(l, c, d, e, p, n, bounds, j, f.index, f.tied, r)
 }
 
 pub fn steps(
@@ -324,20 +331,18 @@ pub fn steps(
     p: &mut [usize],
     diag: &mut [f64],
     n: usize,
-    delta: f64,
-    beta: f64,
-    r: Progress,
+    bounds: Bounds,
+    mut r: Progress,
 ) -> Progress
     requires square { Square n l.old }
     requires square_2 { Square n c.old }
     requires d_len { (length d.old ≡ n) × (length e.old ≡ n) × (length p.old ≡ n) × (length diag.old ≡ n) }
-    ensures { state l.new c.new d.new e.new p.new result ≡ range 0 n (step numbers.now n delta beta) (state l.old c.old d.old e.old p.old r) }
+    ensures { state l.new c.new d.new e.new p.new result ≡ range 0 n (step numbers.now n bounds.delta bounds.beta) (state l.old c.old d.old e.old p.old r) }
 {
-    let mut q = r;
     for j in 0..n {
-        q = step(numbers, l, c, d, e, p, diag, n, delta, beta, j, q);
+        r = step(numbers, l, c, d, e, p, diag, n, bounds, j, r);
     }
-    q
+    r
 }
 
 // ---- after the steps
@@ -347,12 +352,11 @@ fn roots(d: &mut [f64]) -> usize
     ensures d_after { d.new ≡ table (length d.old) (λ i. sqrt (get_or d.old i nan)) }
     ensures value { result ≡ inexact_roots (length d.old) d.old }
 {
-    let n = d.len();
     let mut inexact = 0;
-    for i in 0..n {
-        let root = sqrt_flagged(d[i]);
-        d[i] = root.value;
-        inexact = inexact + one_if(root.inexact);
+    for x in d.iter_mut() {
+        let root = sqrt_flagged(*x);
+        *x = root.value;
+        inexact += one_if(root.inexact);
     }
     inexact
 }
@@ -401,7 +405,7 @@ fn scale(l: &mut [f64], d: &mut [f64], n: usize) -> Stores
     statements::lower_triangle(l, n);
     scale_rows(l, d, n);
     Stores {
-        ok: both(list_finite(d, 0), list_finite(l, 0)),
+        ok: list_finite(d, 0) & list_finite(l, 0),
         inexact,
     }
 }
@@ -416,13 +420,12 @@ pub fn finish(
     r: Progress,
 ) -> Progress
     requires square { Square n l.old }
-    requires all_finite { r.refused ≡ Never → AllFinite n l.old }
+    requires all_finite { r.refused ≡ None → AllFinite n l.old }
     requires d_len { (length d.old ≡ n) × (length e.old ≡ n) × (length p.now ≡ n) × (length ec.old ≡ n) × (0 < n) × (r.inexact ≡ 0) }
     requires all_below { AllBelow n p.now }
     ensures { (c : List Float) → Finished n l.old c d.old e.old p.now r l.new e.new result }
 {
-    let refused = r.refused;
-    if refused.marked() {
+    if r.refused.is_some() {
         return r;
     }
     let stores = scale(l, d, n);

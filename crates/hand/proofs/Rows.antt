@@ -3,36 +3,33 @@ use mathlib.Core.Path.{◌≡◌, refl}
 use mathlib.Core.List.{[], ◌∷◌}
 use lib.Ieee.{add, sub, mul, div, lt, eq, neg, is_nan, of_bits}
 use Rattle.arithmetic.specs.First.{first_from}
-use Rattle.arithmetic.specs.Outcome.{◌then◌}
-use Rattle.arithmetic.specs.Sqrt.{sqrt_call}
-use Rattle.arithmetic.specs.declared.outcome.Outcome.TheVariants.{Complete, SizeOutOfRange}
+use Rattle.std.specs.Prelude.{Ok, Err, Some}
+use Rattle.arithmetic.specs.declared.refusal.Refusal.TheVariants.{SizeOutOfRange}
 use Rattle.matrix.specs.Checks.{check_size}
 use Rattle.matrix.specs.Search.{largest}
 use Rattle.matrix.specs.Eigenvalues.{eigenvalues_of}
-use Rattle.matrix.specs.Calls.{search_checks, eigenvalues_2x2_call}
-use Rattle.circles.specs.Circles.{set_each, first_overflow, circle_checks}
+use Rattle.circles.specs.Circles.{set_each, first_overflow}
 use Rattle.methods.specs.Factor.{factor, tolerances}
 use Rattle.methods.specs.Progress.{one_if}
 use Rattle.methods.specs.declared.method.Method.TheVariants.{Gmw81, Se}
-use Rattle.methods.specs.declared.decomposition.Mark.TheVariants.{Step}
 use Rattle.methods.specs.declared.schnabel_eskow.Variant.TheVariants.{Se90, Se99}
 use Rattle.hand.specs.Hand.{4·, minus, All, rows, pivots_at_or_below_zero, RootsCounted, OrdersOf}
 
 pub hand_calculations : All rows
-unfolding factor add sub mul div lt eq neg is_nan of_bits first_from sqrt_call eigenvalues_2x2_call search_checks largest circle_checks set_each first_overflow ◌then◌ eigenvalues_of one_if
+unfolding factor add sub mul div lt eq neg is_nan of_bits first_from largest set_each first_overflow eigenvalues_of one_if
 hand_calculations = (refl, (refl, (refl, (refl, (refl, (refl, (refl, (refl, (refl, (refl, (refl, (refl, ((refl, refl), (refl, tt))))))))))))))
 
 -- ---- outside the table
-pub size_48 : check_size 48 ≡ Complete
+pub size_48 : check_size 48 ≡ Ok tt
 size_48 = refl
 
-pub size_49 : check_size 49 ≡ SizeOutOfRange
+pub size_49 : check_size 49 ≡ Err SizeOutOfRange
 size_49 = refl
 
-pub size_0 : check_size 0 ≡ SizeOutOfRange
+pub size_0 : check_size 0 ≡ Err SizeOutOfRange
 size_0 = refl
 
-pub se99-enters : (factor (Se Se99) tolerances [] 1 (minus 4· ∷ [])).decomposition.phase2 ≡ Step 0
+pub se99-enters : (factor (Se Se99) tolerances [] 1 (minus 4· ∷ [])).decomposition.phase2 ≡ Some 0
 unfolding factor add sub mul div lt eq neg is_nan of_bits
 se99-enters = refl
 
@@ -43,7 +40,7 @@ pivots-at_or_below_zero = (refl, (refl, (refl, (refl, (refl, (refl, tt))))))
 
 -- ---- which roots count
 pub roots_counted : RootsCounted
-unfolding factor add sub mul div lt eq neg is_nan of_bits sqrt_call ◌then◌ one_if
+unfolding factor add sub mul div lt eq neg is_nan of_bits one_if
 roots_counted = record { root_of_two = refl; root_of_minus_zero = refl; gmw81 = refl; not_in_beta = refl; se90 = refl; se99 = refl; one_row_left = refl; both_in_block = refl; first_in_block = refl; second_in_block = refl; not_in_eigenvalues = refl }
 
 -- ---- a tie after a swap, without numbers and with

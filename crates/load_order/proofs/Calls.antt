@@ -5,9 +5,8 @@ use mathlib.Core.List.{List, []}
 use Prim.Native.Nat.{ℕ, ◌≤◌}
 use lib.ListN.{length}
 use lib.Ieee.{Float}
-use Rattle.arithmetic.specs.Outcome.{complete}
-use Rattle.arithmetic.specs.declared.outcome.Outcome.{Outcome}
-use Rattle.arithmetic.specs.declared.outcome.Outcome.TheVariants.{Complete}
+use Rattle.arithmetic.specs.Outcome.{complete, Outcome}
+use Rattle.std.specs.Prelude.{Ok}
 use Rattle.matrix.proofs.CheckLaws.{Accepted}
 use Rattle.methods.specs.AcceptedMatrix.{AcceptedMatrix}
 use Rattle.methods.specs.Calls.{Call, method_of, factor_checks, answered, call_with}
@@ -20,7 +19,7 @@ use Rattle.load_order.specs.Calls.{LentBuffers, Fitting, Passes, CallsTheorem, N
 use Rattle.load_order.proofs.Theorem.{load_order}
 use Rattle.load_order.proofs.Numbered.{length-reloaded, reloaded_distinct, numbered}
 
--- a call whose number checks pass: with numbers, or without where they come to Complete
+-- a call whose number checks pass: with numbers, or without where they come to Ok
 module _ (numbering : Outcome) (numbers : List ℕ) (N : Accepted numbering) (method n : ℕ) (a : List Float) (b : LentBuffers) (p : 1 ≤ method) (q : method ≤ 3) (u : 1 ≤ n) (w : n ≤ 48) (A : AcceptedMatrix n a) (F : Fitting n b) where
   checks-pass : complete (factor_checks method n a numbering (length b.l) (length b.work) (length b.e) (length b.p)) ≡ true
   checks-pass = (passes method n a numbering (length b.l) (length b.work) (length b.e) (length b.p) N (record {
@@ -42,16 +41,16 @@ module _ (numbering : Outcome) (numbers : List ℕ) (N : Accepted numbering) (me
   call_passes = record { checks = checks-pass; cleared = ap (λ (c : Call). c.work) (sym call-is) }
 
 -- ---- without contract numbers
-none : Accepted Complete
+none : Accepted (Ok tt)
 none = record { is = refl }
 
 pub calls : CallsTheorem
 calls method n a s b b' p q u w A L F F' =
     let A' = reload-accepted n a s A L in
     record {
-      first = call_passes Complete [] none method n a b p q u w A F;
-      second = call_passes Complete [] none method n (reload n s a) b' p q u w A' F';
-      alike = rw (← call-is Complete [] none method n a b p q u w A F, ← call-is Complete [] none method n (reload n s a) b' p q u w A' F')
+      first = call_passes (Ok tt) [] none method n a b p q u w A F;
+      second = call_passes (Ok tt) [] none method n (reload n s a) b' p q u w A' F';
+      alike = rw (← call-is (Ok tt) [] none method n a b p q u w A F, ← call-is (Ok tt) [] none method n (reload n s a) b' p q u w A' F')
           (load_order (method_of method) tolerances n a s A L);
     }
 

@@ -2,15 +2,13 @@
 use mathlib.Core.Path.{◌≡◌, refl, sym, ap, ◌∙◌}
 use mathlib.Core.List.{List}
 use Prim.Native.Nat.{ℕ, ◌<◌}
-use native.Mathlib.Omega.{arith}
 use lib.ListN.{get_or, get_or-replicate}
 use lib.Ieee.{Float, nan}
 use Rattle.arithmetic.specs.Double.{plus_zero}
-use Rattle.arithmetic.specs.declared.outcome.Outcome.TheVariants.{Complete, StoredNotFinite}
+use Rattle.std.specs.Prelude.{None, Some}
 use Rattle.methods.specs.Reloading.{LoadOrder}
 use Rattle.methods.specs.Result.{Result, hand_back}
-use Rattle.methods.specs.declared.decomposition.Mark.{Mark}
-use Rattle.methods.specs.declared.decomposition.Mark.TheVariants.{Never, Step}
+use Rattle.methods.specs.Marks.{Mark}
 use Rattle.methods.specs.declared.progress.Progress.{Progress}
 use Rattle.methods.proofs.LoadOrders.{order}
 use Rattle.methods.proofs.MarkLaws.{clash}
@@ -36,33 +34,30 @@ pub record Completed (n : ℕ) (s : List ℕ) (A B : End) : Type 0 where
 
 pub record BothAlike (n : ℕ) (s : List ℕ) (A B : End) : Type 0 where
   pub same : A.progress ≡ B.progress
-  pub completed : A.progress.refused ≡ Never → Completed n s A B
+  pub completed : A.progress.refused ≡ None → Completed n s A B
 
 -- May: whether ties may part the runs
 pub data Ended (May : Type 0) (n : ℕ) (s : List ℕ) (A B : End) : Type 0 where
-  both_tied : May → (t : ℕ) → A.progress.tied ≡ Step t → B.progress.tied ≡ Step t → Ended May n s A B
-  both_left : (t : ℕ) → A.progress.tied ≡ B.progress.tied → A.progress.phase2 ≡ Step t → B.progress.phase2 ≡ Step t → Ended May n s A B
+  both_tied : May → (t : ℕ) → A.progress.tied ≡ Some t → B.progress.tied ≡ Some t → Ended May n s A B
+  both_left : (t : ℕ) → A.progress.tied ≡ B.progress.tied → A.progress.phase2 ≡ Some t → B.progress.phase2 ≡ Some t → Ended May n s A B
   both_alike : BothAlike n s A B → Ended May n s A B
 
 -- ---- what is handed back
-pub refused-not_complete : (t : ℕ) → StoredNotFinite t ≡ Complete → ⊥
-refused-not_complete t e = let z : ◌≡◌ {A = ℕ} 0 1 = cc in omega arith
-
 -- what is alike where no tie parts the runs
 pub record Joined (n : ℕ) (s : List ℕ) (first second : Result) : Type 0 where
   pub tied : first.decomposition.tied ≡ second.decomposition.tied
   pub phase2 : first.decomposition.phase2 ≡ second.decomposition.phase2
-  pub throughout : first.decomposition.phase2 ≡ Never → AlikeThroughout n s first second
+  pub throughout : first.decomposition.phase2 ≡ None → AlikeThroughout n s first second
 
 module _ (n : ℕ) (s : List ℕ) (A B : End) (L : LoadOrder n s) where
-  throughout : (m : Mark) → A.progress.refused ≡ m → B.progress.refused ≡ m → A.progress.inexact ≡ B.progress.inexact → (A.progress.refused ≡ Never → Completed n s A B) → AlikeThroughout n s (handed n A) (handed n B)
-  throughout Never p q k c = rw (p, q) (record { outcome = refl; inexact = k; factors = (c p).factors; amounts = (c p).amounts; pivots = λ h. (c p).pivots })
-  throughout (Step t) p q k c = rw (p, q) (record {
+  throughout : (m : Mark) → A.progress.refused ≡ m → B.progress.refused ≡ m → A.progress.inexact ≡ B.progress.inexact → (A.progress.refused ≡ None → Completed n s A B) → AlikeThroughout n s (handed n A) (handed n B)
+  throughout None p q k c = rw (p, q) (record { outcome = refl; inexact = k; factors = (c p).factors; amounts = (c p).amounts; pivots = λ h. (c p).pivots })
+  throughout (Some t) p q k c = rw (p, q) (record {
     outcome = refl;
     inexact = refl;
     factors = refl;
     amounts = λ i h. get_or-replicate n i plus_zero nan h ∙ sym (get_or-replicate n (get_or s i 0) plus_zero nan (L.below i h));
-    pivots = λ e. absurd (refused-not_complete t e);
+    pivots = λ e k h. cc;
   })
 
   -- no tie parts the runs
@@ -89,7 +84,7 @@ module _ (n : ℕ) (s : List ℕ) (A B : End) (L : LoadOrder n s) where
 pub record ProgressKept (r : Progress) (end : End) : Type 0 where
   pub tied : end.progress.tied ≡ r.tied
   pub phase2 : end.progress.phase2 ≡ r.phase2
-  pub refused : (t : ℕ) → r.refused ≡ Step t → r.phase2 ≡ Never → end.progress ≡ r
+  pub refused : (t : ℕ) → r.refused ≡ Some t → r.phase2 ≡ None → end.progress ≡ r
 
 module _ {Run : Type 0} (M : Steps Run) (n : ℕ) (s : List ℕ) (Values : (ℕ → ℕ) → ℕ → Run → Run → Type 0) (May : Type 0) (A B : Run) (A' B' : End)
     (F : ProgressKept (M.progress A) A') (G : ProgressKept (M.progress B) B') (complete : InStep M n (order s) Values n A B → M.progress A ≡ M.progress B → Going (M.progress A) → BothAlike n s A' B') where
@@ -98,25 +93,25 @@ module _ {Run : Type 0} (M : Steps Run) (n : ℕ) (s : List ℕ) (Values : (ℕ 
   runs_end (together T) = go (M.progress A).phase2 refl (M.progress A).refused refl
     where
       go : (m : Mark) → (M.progress A).phase2 ≡ m → (q : Mark) → (M.progress A).refused ≡ q → Ended May n s A' B'
-      go (Step t) p q e = both_left t
+      go (Some t) p q e = both_left t
           (F.tied ∙ ap (λ (r : Progress). r.tied) T.same ∙ sym G.tied)
           (F.phase2 ∙ p) (G.phase2 ∙ sym (ap (λ (r : Progress). r.phase2) T.same) ∙ p)
-      go Never p (Step t) e =
+      go None p (Some t) e =
           let same : A'.progress ≡ B'.progress =
           F.refused t e p ∙ T.same ∙ sym (G.refused t (sym (ap (λ (r : Progress). r.refused) T.same) ∙ e) (sym (ap (λ (r : Progress). r.phase2) T.same) ∙ p)) in
           both_alike (record { same = same; completed = λ h. clash A'.progress.refused t h (ap (λ (r : Progress). r.refused) (F.refused t e p) ∙ e) })
-      go Never p Never e = both_alike (complete (rw p at (T.in_step e)) T.same (record { phase2 = p; refused = e }))
+      go None p None e = both_alike (complete (rw p at (T.in_step e)) T.same (record { phase2 = p; refused = e }))
 
   -- .. where it is complete and has no second phase
-  pub together_end : Together M n (order s) Values n A B → A'.progress.phase2 ≡ Never → A'.progress.refused ≡ Never → BothAlike n s A' B'
+  pub together_end : Together M n (order s) Values n A B → A'.progress.phase2 ≡ None → A'.progress.refused ≡ None → BothAlike n s A' B'
   together_end T p q = complete (going_together M n (order s) Values n A B G₁ T) T.same G₁
     where
-      phase2 : (M.progress A).phase2 ≡ Never
+      phase2 : (M.progress A).phase2 ≡ None
       phase2 = sym F.phase2 ∙ p
 
-      refused : (m : Mark) → (M.progress A).refused ≡ m → (M.progress A).refused ≡ Never
-      refused Never e = e
-      refused (Step t) e = clash A'.progress.refused t q (ap (λ (r : Progress). r.refused) (F.refused t e phase2) ∙ e)
+      refused : (m : Mark) → (M.progress A).refused ≡ m → (M.progress A).refused ≡ None
+      refused None e = e
+      refused (Some t) e = clash A'.progress.refused t q (ap (λ (r : Progress). r.refused) (F.refused t e phase2) ∙ e)
 
       G₁ : Going (M.progress A)
       G₁ = record { phase2 = phase2; refused = refused (M.progress A).refused refl }

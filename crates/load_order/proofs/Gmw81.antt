@@ -23,7 +23,7 @@ use Rattle.methods.specs.Progress.{searched, stored, counted}
 use Rattle.methods.specs.Result.{identity}
 use Rattle.methods.specs.Statements.{diagonal_max, diagonal, pick, pivot_matrix}
 use Rattle.methods.specs.Gmw81.{Run, start, divide_row, dot, d_of, update_diagonal, stored_finite, c₂Of, step_at, step, dout_of, inexact_roots, unit_lower, product, scaled_finite, finish, run, stepped, off_diagonal_max, delta_of, beta_of}
-use Rattle.methods.specs.declared.decomposition.Mark.TheVariants.{Never}
+use Rattle.std.specs.Prelude.{None}
 use Rattle.methods.specs.declared.progress.Progress.{Progress}
 use Rattle.methods.proofs.Tests.{all_same, all-along}
 use Rattle.methods.proofs.Magnitudes.{off_diagonal_max-along}
@@ -236,9 +236,9 @@ finished n r = go (is (marked r.progress.refused))
     go (fails h) = rw (finish-goes n r h) (record { tied = refl; phase2 = refl; refused = λ t e p. absurd (false≢true (sym h ∙ ap marked e)) })
 
 -- there is one phase
-pub one-phase : (numbers : List ℕ) (n : ℕ) (a : List Float) → (run numbers n a).progress.phase2 ≡ Never
+pub one-phase : (numbers : List ℕ) (n : ℕ) (a : List Float) → (run numbers n a).progress.phase2 ≡ None
 one-phase numbers n a = rw run_is ((finished n (stepped numbers n a)).phase2
-    ∙ steps_keep numbers n _ _ (λ j r. r.progress.phase2 ≡ Never) (record { by_step = λ j k tie r h w e. rw step-at_is e; refused = λ j r h e. e }) a (rw started_is refl))
+    ∙ steps_keep numbers n _ _ (λ j r. r.progress.phase2 ≡ None) (record { by_step = λ j k tie r h w e. rw step-at_is e; refused = λ j r h e. e }) a (rw started_is refl))
 
 module _ (n : ℕ) (delta beta : Float) (s : List ℕ) (A B : Run) where
   complete : InStep (steps n delta beta) n (order s) (Values n) n A B → A.progress ≡ B.progress → Going A.progress → BothAlike n s (end_of (finish n A)) (end_of (finish n B))
@@ -276,7 +276,7 @@ module _ (n : ℕ) (s : List ℕ) (s' : ℕ → ℕ) (A B : List Float) (D : Loa
       (runs_end M n s (Values n) May _ _ _ _ (finished n _) (finished n _) (complete n _ _ s _ _) (steps_runs n _ _ (order s) May first second S s' A B D))
 
   -- s is the first run's order, and there are no numbers
-  pub gmw81-own : (run [] n A).p ≡ s → (run [] n A).progress.phase2 ≡ Never → (run [] n A).progress.refused ≡ Never → BothAlike n s (end_of (run [] n A)) (end_of (run [] n B))
+  pub gmw81-own : (run [] n A).p ≡ s → (run [] n A).progress.phase2 ≡ None → (run [] n A).progress.refused ≡ None → BothAlike n s (end_of (run [] n A)) (end_of (run [] n B))
   unfolding run
   gmw81-own e p q = subst (λ (r : Run). BothAlike n s (end_of (run [] n A)) (end_of r)) (second_run n (order s) s' A B D [])
       (together_end M n s (Values n) Unit _ _ _ _ (finished n _) (finished n _) (complete n _ _ s _ _)

@@ -8,10 +8,9 @@ use Rattle.arithmetic.specs.Loop.{range}
 use Rattle.arithmetic.proofs.LoopLaws.{range2_ind}
 use Rattle.matrix.specs.declared.utils.Found.{Found}
 use Rattle.arithmetic.proofs.Cases.{Is, is, holds, fails}
-use Rattle.methods.specs.Marks.{mark, marked}
+use Rattle.methods.specs.Marks.{mark, marked, Mark}
 use Rattle.methods.specs.Progress.{stopped}
-use Rattle.methods.specs.declared.decomposition.Mark.{Mark}
-use Rattle.methods.specs.declared.decomposition.Mark.TheVariants.{Never, Step}
+use Rattle.std.specs.Prelude.{None, Some}
 use Rattle.methods.specs.declared.progress.Progress.{Progress}
 use Rattle.methods.proofs.MarkLaws.{mark-keeps, mark-some}
 use Rattle.methods.proofs.Stopped.{Going, going, unless_stopped, stays, goes}
@@ -38,12 +37,12 @@ step M numbers j r = unless_stopped M.progress (next M numbers j) r
 
 -- the step before which a run stands after j steps: where it left phase one, or j
 abbrev pub reached : ℕ → Mark → ℕ
-reached j Never = j
-reached j (Step k) = k
+reached j None = j
+reached j (Some k) = k
 
-reached_stays : (i j : ℕ) (m q : Mark) → (marked m || marked q) ≡ true → q ≡ Never → reached i m ≡ reached j m
-reached_stays i j Never q h e = absurd (false≢true (sym (ap marked e) ∙ h))
-reached_stays i j (Step k) q h e = refl
+reached_stays : (i j : ℕ) (m q : Mark) → (marked m || marked q) ≡ true → q ≡ None → reached i m ≡ reached j m
+reached_stays i j None q h e = absurd (false≢true (sym (ap marked e) ∙ h))
+reached_stays i j (Some k) q h e = refl
 
 -- s is the load order; Values: what holds of the values of two runs before step j, along the positions
 module _ {Run : Type 0} (M : Steps Run) (n : ℕ) (s : ℕ → ℕ) (Values : (ℕ → ℕ) → ℕ → Run → Run → Type 0) where
@@ -54,7 +53,7 @@ module _ {Run : Type 0} (M : Steps Run) (n : ℕ) (s : ℕ → ℕ) (Values : (�
   -- after j steps
   pub record Together (j : ℕ) (A B : Run) : Type 0 where
     pub same : M.progress A ≡ M.progress B
-    pub in_step : (M.progress A).refused ≡ Never → InStep (reached j (M.progress A).phase2) A B
+    pub in_step : (M.progress A).refused ≡ None → InStep (reached j (M.progress A).phase2) A B
 
   -- runs that stopped stand as they did; those that go on stand before step j
   pub stopped-together : (j : ℕ) (A B : Run) → stopped (M.progress A) ≡ true → Together j A B → Together (suc j) A B
@@ -70,7 +69,7 @@ module _ {Run : Type 0} (M : Steps Run) (n : ℕ) (s : ℕ → ℕ) (Values : (�
   module _ (May : Type 0) where
     pub data Runs (j : ℕ) (A B : Run) : Type 0 where
       together : Together j A B → Runs j A B
-      apart : May → (t : ℕ) → (M.progress A).tied ≡ Step t → (M.progress B).tied ≡ Step t → Runs j A B
+      apart : May → (t : ℕ) → (M.progress A).tied ≡ Some t → (M.progress B).tied ≡ Some t → Runs j A B
 
     -- the contracts' numbers in the first run and in the second
     module _ (first second : List ℕ) where
@@ -86,17 +85,17 @@ module _ {Run : Type 0} (M : Steps Run) (n : ℕ) (s : ℕ → ℕ) (Values : (�
 
       module _ (K : Laws) where
         -- the first tie stays
-        next_keeps : (numbers : List ℕ) (j t : ℕ) (r : Run) → (M.progress r).tied ≡ Step t → (M.progress (next M numbers j r)).tied ≡ Step t
+        next_keeps : (numbers : List ℕ) (j t : ℕ) (r : Run) → (M.progress r).tied ≡ Some t → (M.progress (next M numbers j r)).tied ≡ Some t
         next_keeps numbers j t r e = go (is (M.leaves j r))
           where
-            go : Is (M.leaves j r) → (M.progress (next M numbers j r)).tied ≡ Step t
+            go : Is (M.leaves j r) → (M.progress (next M numbers j r)).tied ≡ Some t
             go (holds h) = rw h (K.leave-tied j r ∙ e)
             go (fails h) = rw h (K.step-tied j _ _ r ∙ mark-keeps (M.progress r).tied _ j t e)
 
-        step_keeps : (numbers : List ℕ) (j t : ℕ) (r : Run) → (M.progress r).tied ≡ Step t → (M.progress (step M numbers j r)).tied ≡ Step t
+        step_keeps : (numbers : List ℕ) (j t : ℕ) (r : Run) → (M.progress r).tied ≡ Some t → (M.progress (step M numbers j r)).tied ≡ Some t
         step_keeps numbers j t r e = go (is (stopped (M.progress r)))
           where
-            go : Is (stopped (M.progress r)) → (M.progress (step M numbers j r)).tied ≡ Step t
+            go : Is (stopped (M.progress r)) → (M.progress (step M numbers j r)).tied ≡ Some t
             go (holds h) = rw h e
             go (fails h) = rw h (next_keeps numbers j t r e)
 

@@ -5,7 +5,7 @@ use Prim.Native.Nat.{ℕ, ◌<◌}
 use native.Mathlib.Omega.{arith}
 use lib.ListN.{get_or}
 use lib.Seq.{ext_get_or}
-use Rattle.arithmetic.specs.declared.outcome.Outcome.TheVariants.{Complete}
+use Rattle.std.specs.Prelude.{Ok, None, Some}
 use Rattle.matrix.proofs.TableLaws.{length-table, get_or-table}
 use Rattle.methods.specs.Reloading.{LoadOrder, reload}
 use Rattle.methods.specs.Result.{identity, outcome_of, reported, filled_order}
@@ -15,24 +15,23 @@ use Rattle.methods.specs.Se.{mod_cholesky_se}
 use Rattle.methods.specs.Se as ses
 use Rattle.methods.specs.Factor.{factor}
 use Rattle.methods.specs.declared.method.Method.TheVariants.{Gmw81, Se}
-use Rattle.methods.specs.declared.decomposition.Mark.{Mark}
-use Rattle.methods.specs.declared.decomposition.Mark.TheVariants.{Never, Step}
+use Rattle.methods.specs.Marks.{Mark}
 use Rattle.methods.proofs.GmwRuns as gmw-runs
 use Rattle.methods.proofs.LoadOrders.{position}
 use Rattle.methods.proofs.Loaded.{loaded}
 use Rattle.methods.proofs.Pivots.{Permuted, permuted_order, permuted_below}
 use Rattle.methods.proofs.SeRuns as se-runs
 use Rattle.load_order.specs.OwnOrder.{OwnOrder, OwnOrderTheorem}
-use Rattle.load_order.proofs.Ends.{End, handed, BothAlike, refused-not_complete}
+use Rattle.load_order.proofs.Ends.{End, handed, BothAlike}
 use Rattle.load_order.proofs.Se as se-end
 use Rattle.load_order.proofs.Gmw81 as gmw-end
 
 -- ---- a complete run
-complete-never : (m : Mark) → outcome_of m ≡ Complete → m ≡ Never
-complete-never Never e = refl
-complete-never (Step t) e = absurd (refused-not_complete t e)
+complete-never : (m : Mark) → outcome_of m ≡ Ok tt → m ≡ None
+complete-never None e = refl
+complete-never (Some t) e = cc
 
-filled-never : (m : Mark) (n : ℕ) (p : List ℕ) → m ≡ Never → filled_order m n p ≡ p
+filled-never : (m : Mark) (n : ℕ) (p : List ℕ) → m ≡ None → filled_order m n p ≡ p
 filled-never m n p e = rw e
 
 -- ---- q is in order where p[q[t]] is p[t]
@@ -42,9 +41,9 @@ in_order n p q L P h = ext_get_or 0 q (identity n) (P.len ∙ sym (length-table 
     sym (L.once t (get_or q t 0) k (permuted_below n q P t l) (h t k)) ∙ sym (get_or-table n (λ i. i) t 0 k))
 
 -- ---- what is handed back
-handed-own : (n : ℕ) (A B : End) → Permuted n A.p → Permuted n B.p → A.progress.refused ≡ Never → BothAlike n A.p A B → OwnOrder n (handed n A) (handed n B)
+handed-own : (n : ℕ) (A B : End) → Permuted n A.p → Permuted n B.p → A.progress.refused ≡ None → BothAlike n A.p A B → OwnOrder n (handed n A) (handed n B)
 handed-own n A B P Q e C =
-    let f : B.progress.refused ≡ Never = sym (ap (λ r. r.refused) C.same) ∙ e in
+    let f : B.progress.refused ≡ None = sym (ap (λ r. r.refused) C.same) ∙ e in
     let D = C.completed e in
     record {
       decomposition = ap reported (sym C.same);

@@ -23,7 +23,7 @@ use Rattle.methods.specs.Progress.{searched, left, stored, counted, one_if}
 use Rattle.methods.specs.Result.{identity}
 use Rattle.methods.specs.Statements.{diagonal_max, diagonal, pick, pivot_matrix, pivot_list, eliminate, block_finite, lower_triangle, reorder}
 use Rattle.methods.specs.Se.{Run, start, leaves_before, leaves_after, leave, pivot, factorize, step_at, phase_one_step, in_phase_one, phase_one, phase_two_step_at, pair_of, one_of, add_pair, add_one, last_pair, last_one, begin, phase_two_after, phase_two, run}
-use Rattle.methods.specs.declared.decomposition.Mark.TheVariants.{Never}
+use Rattle.std.specs.Prelude.{None}
 use Rattle.methods.specs.declared.progress.Progress.{Progress}
 use Rattle.methods.specs.declared.schnabel_eskow.Tolerances.{Tolerances}
 use Rattle.methods.specs.declared.schnabel_eskow.Variant.{Variant}
@@ -247,7 +247,7 @@ module _ (v : Variant) (t : Tolerances) (gamma : Float) (n : ℕ) where
   }
 
   -- a run that stayed in phase one
-  stayed : (numbers : List ℕ) (r : Run) → r.progress.phase2 ≡ Never → phase_two v t numbers gamma n r ≡ r
+  stayed : (numbers : List ℕ) (r : Run) → r.progress.phase2 ≡ None → phase_two v t numbers gamma n r ≡ r
   unfolding phase_two_after
   stayed numbers r e = rw e
 
@@ -273,7 +273,7 @@ module _ (v : Variant) (t : Tolerances) (gamma : Float) (n : ℕ) where
       }))
 
   -- a run with no second phase has the order of phase one
-  stayed_order : (numbers : List ℕ) (a : List Float) → let r = phase_one v t numbers gamma n (start n a) in (phase_two v t numbers gamma n r).progress.phase2 ≡ Never → (phase_two v t numbers gamma n r).p ≡ r.p
+  stayed_order : (numbers : List ℕ) (a : List Float) → let r = phase_one v t numbers gamma n (start n a) in (phase_two v t numbers gamma n r).progress.phase2 ≡ None → (phase_two v t numbers gamma n r).p ≡ r.p
   stayed_order numbers a e = let r = phase_one v t numbers gamma n (start n a) in ap (λ (q : Run). q.p) (stayed numbers r (sym (finished numbers a).phase2 ∙ e))
 
 module _ (v : Variant) (t : Tolerances) (n : ℕ) (s : List ℕ) (s' : ℕ → ℕ) (A B : List Float) (D : Loaded n (order s) s' A B) where
@@ -291,7 +291,7 @@ module _ (v : Variant) (t : Tolerances) (n : ℕ) (s : List ℕ) (s' : ℕ → �
       (runs_end (steps v t gamma n) n s (Values n) May _ _ _ _ (finished v t gamma n first A) (finished v t gamma n second B) (complete v t gamma n first second s _ _) (phase_one_runs v t gamma n (order s) May first second S s' A B D))
 
   -- s is the first run's order, and there are no numbers
-  pub se_own : (run v t [] n A).p ≡ s → (run v t [] n A).progress.phase2 ≡ Never → (run v t [] n A).progress.refused ≡ Never → BothAlike n s (end_of n (run v t [] n A)) (end_of n (run v t [] n B))
+  pub se_own : (run v t [] n A).p ≡ s → (run v t [] n A).progress.phase2 ≡ None → (run v t [] n A).progress.refused ≡ None → BothAlike n s (end_of n (run v t [] n A)) (end_of n (run v t [] n B))
   unfolding run
   se_own e p q = subst (λ (r : Run). BothAlike n s (end_of n (run v t [] n A)) (end_of n r)) (second_run [])
       (together_end (steps v t gamma n) n s (Values n) Unit _ _ _ _ (finished v t gamma n [] A) (finished v t gamma n [] B) (complete v t gamma n [] [] s _ _)

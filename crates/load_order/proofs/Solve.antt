@@ -5,16 +5,16 @@ use mathlib.Core.List.{List}
 use Prim.Native.Nat.{ℕ, ◌<◌}
 use native.Mathlib.Decide.{ℕ_discrete, dec_lt}
 use native.Mathlib.Omega.{arith}
-use lib.Dec.{eqb, ltb}
+use lib.Dec.{ltb}
 use lib.ListN.{length, get_or, set, length-set, length-replicate, get_or-replicate}
 use lib.Seq.{get_or-set_same, get_or-set_other}
 use lib.Ieee.{Float, nan}
 use lib.Ieee.Scale.{finite}
 use borrow.Author.Tests.{ltb-true, lt-ltb}
 use Rattle.arithmetic.specs.Double.{plus_zero}
-use Rattle.arithmetic.specs.Outcome.{complete, number, refuse, ◌then◌}
-use Rattle.arithmetic.specs.declared.outcome.Outcome.{Outcome}
-use Rattle.arithmetic.specs.declared.outcome.Outcome.TheVariants.{Complete, NotFinite}
+use Rattle.arithmetic.specs.Outcome.{complete, number, number_of, refuse, ◌then◌, Outcome}
+use Rattle.std.specs.Prelude.{Ok, Err}
+use Rattle.arithmetic.specs.declared.refusal.Refusal.TheVariants.{NotFinite}
 use Rattle.arithmetic.proofs.Cases.{same_tests}
 use Rattle.arithmetic.proofs.FirstLaws.{first-is}
 use Rattle.arithmetic.proofs.LoopLaws.{range-ind, same-loops}
@@ -24,8 +24,8 @@ use Rattle.matrix.specs.Matrix.{zeros}
 use Rattle.matrix.proofs.TableLaws.{length-table, get_or-table}
 use Rattle.methods.specs.Reloading.{LoadOrder}
 use Rattle.methods.proofs.LoadOrders.{position, order-bijection}
-use Rattle.solve.specs.Checks.{check_order}
-use Rattle.solve.specs.Substitution.{Rows, forward_row, forward, backward, put_back, solve_call_of, solve, content_checks, solve_checks, solve_call}
+use Rattle.solve.specs.Checks.{check_order, check_lower, check_divisors}
+use Rattle.solve.specs.Substitution.{Rows, forward_row, forward, backward, put_back, solve_call_of, solve, content_checks, solve_checks}
 use Rattle.solve.proofs.Accepted.{order-passes}
 use Rattle.load_order.specs.Solve.{reload_right, SamePivots, SolvedAlike, SolvedTheorem, AlikeSolvedTheorem}
 
@@ -47,20 +47,26 @@ module _ (n : ℕ) (p : List ℕ) (w : List Float) (P : LoadOrder n p) where
         ];
       })).done
 
--- ---- chains of checks that refuse by the same number
-then_number : (o o' rest rest' : Outcome) → number o ≡ number o' → number rest ≡ number rest' → number (o then rest) ≡ number (o' then rest')
-unfolding ◌then◌
-then_number o o' rest rest' e f = rw (← e) (go (complete o))
-  where
-    go : (b : Bool) → number (cond b rest o) ≡ number (cond b rest' o')
-    go true = f
-    go false = e
+-- ---- chains of checks that both pass, or refuse by the same number
+abbrev SameNumber : Outcome → Outcome → Type 0
+SameNumber (Ok _) (Ok _) = Unit
+SameNumber (Err r) (Err r') = number_of r ≡ number_of r'
+SameNumber (Ok _) (Err r') = ⊥
+SameNumber (Err r) (Ok _) = ⊥
 
-refuse-number : (c c' : Bool) (i j i' j' : ℕ) → c ≡ c' → number (refuse c (NotFinite i j)) ≡ number (refuse c' (NotFinite i' j'))
-refuse-number true true i j i' j' e = refl
-refuse-number false false i j i' j' e = refl
-refuse-number true false i j i' j' e = absurd (false≢true (sym e))
-refuse-number false true i j i' j' e = absurd (false≢true e)
+itself : (o : Outcome) → SameNumber o o
+itself (Ok _) = tt
+itself (Err r) = refl
+
+same_then : (o o' rest rest' : Outcome) → SameNumber o o' → SameNumber rest rest' → SameNumber (o then rest) (o' then rest')
+same_then (Ok _) (Ok _) rest rest' e f = f
+same_then (Err r) (Err r') rest rest' e f = e
+same_then (Ok _) (Err r') rest rest' e f = absurd e
+same_then (Err r) (Ok _) rest rest' e f = absurd e
+
+same-refuse : (c : Bool) (i j i' j' : ℕ) → SameNumber (refuse c (NotFinite i j)) (refuse c (NotFinite i' j'))
+same-refuse true i j i' j' = refl
+same-refuse false i j i' j' = tt
 
 some-bad : (m : List Float) (k : ℕ) → k < length m → not_finite m k ≡ true → ltb (first_not_finite m) (length m) ≡ true
 some-bad m k l h = lt-ltb (first_not_finite m) (length m) (elim (dec_lt (first_not_finite m) (length m)) [
@@ -93,23 +99,22 @@ module _ (n : ℕ) (s : List ℕ) (b : List Float) (S : LoadOrder n s) (B : leng
       let l : f < n = omega (arith, length-right) in
       some-bad b (get_or s f 0) (omega (arith, S.below f l)) (ap (λ (v : Float). not (finite v)) (sym (right-at f l)) ∙ (first-is (not_finite (reload_right n s b)) (length (reload_right n s b))).here w)
 
-  finite_number : number (check_finite 1 b) ≡ number (check_finite 1 (reload_right n s b))
-  finite_number = refuse-number _ _ _ _ _ _ (same_tests _ _ to_right from-right)
+  same-finite : SameNumber (check_finite 1 b) (check_finite 1 (reload_right n s b))
+  same-finite = rw (same_tests _ _ to_right from-right) (same-refuse _ _ _ _ _)
 
 -- ---- the two calls
-order-complete : (n : ℕ) (p : List ℕ) → LoadOrder n p → check_order n p ≡ Complete
+order-complete : (n : ℕ) (p : List ℕ) → LoadOrder n p → check_order n p ≡ Ok tt
 order-complete n p P = complete-is (check_order n p) (order-passes n p (λ k h. P.below k (omega (arith, P.len))) (record { once = λ i k h l. P.once i k (omega (arith, P.len)) (omega (arith, P.len)) })).is
 
 module _ (n : ℕ) (l : List Float) (s p p' : List ℕ) (b : List Float) (S : LoadOrder n s) (P : LoadOrder n p) (Q : SamePivots n s p p') (B : length b ≡ n) where
   second-order : LoadOrder n p'
   second-order = record { len = Q.len; below = Q.below; once = λ i k h l e. P.once i k h l (Q.contracts i h ∙ ap (λ (j : ℕ). get_or s j 0) e ∙ sym (Q.contracts k l)) }
 
-  content-number : number (content_checks n l p b) ≡ number (content_checks n l p' (reload_right n s b))
-  unfolding content_checks
-  content-number = rw (order-complete n p P, order-complete n p' second-order) (then_number _ _ _ _ (then_number _ _ _ _ refl (finite_number n s b S B)) refl)
+  same-content : SameNumber (content_checks n l p b) (content_checks n l p' (reload_right n s b))
+  same-content = rw (order-complete n p P, order-complete n p' second-order) (same_then _ _ _ _ (same_then _ _ _ _ (itself (check_lower n l)) (same-finite n s b S B)) (itself (check_divisors n l)))
 
-  checks-number : (y y' : ℕ) → y ≡ n → y' ≡ n → number (solve_checks n l y p b) ≡ number (solve_checks n l y' p' (reload_right n s b))
-  checks-number y y' e e' = then_number _ _ _ _ (rw (e, e', P.len, Q.len, B, length-right n s b S B) refl) content-number
+  same-checks : (y y' : ℕ) → y ≡ n → y' ≡ n → SameNumber (solve_checks n l y p b) (solve_checks n l y' p' (reload_right n s b))
+  same-checks y y' e e' = same_then _ _ _ _ (rw (e, e', P.len, Q.len, B, length-right n s b S B) (itself _)) same-content
 
   forward-same : forward n l p b ≡ forward n l p' (reload_right n s b)
   unfolding forward forward_row
@@ -137,23 +142,15 @@ module _ (n : ℕ) (l : List Float) (s p p' : List ℕ) (b : List Float) (S : Lo
       go r false = get_or-replicate n i plus_zero nan h ∙ sym (get_or-replicate n (get_or s i 0) plus_zero nan (S.below i h))
 
 pub solved : SolvedTheorem
-unfolding solve_call
-solved n l s p p' b y y' S P Q B Y Y' = rw (← ap (λ (k : ℕ). eqb k 0) same) (go (complete checks) refl)
+solved n l s p p' b y y' S P Q B Y Y' = go _ _ (same-checks n l s p p' b S P Q B (length y) (length y') Y Y')
   where
-    checks : Outcome
-    checks = solve_checks n l (length y) p b
-
-    checks' : Outcome
-    checks' = solve_checks n l (length y') p' (reload_right n s b)
-
-    same : number checks ≡ number checks'
-    same = checks-number n l s p p' b S P Q B (length y) (length y') Y Y'
-
-    go : (c : Bool) → complete checks ≡ c → SolvedAlike n s checks (cond c (solve n l p b) (solve_call_of checks y)) (cond c (solve n l p' (reload_right n s b)) (solve_call_of checks' y'))
-    go true e =
+    go : (o o' : Outcome) → SameNumber o o' → SolvedAlike n s o (cond (complete o) (solve n l p b) (solve_call_of o y)) (cond (complete o') (solve n l p' (reload_right n s b)) (solve_call_of o' y'))
+    go (Ok _) (Ok _) e =
         let o = outcome-same n l s p p' b S P Q B in
         record { refusal = ap number o; outcome = λ h. o; components = λ h. components n l s p p' b S P Q B }
-    go false e = record { refusal = same; outcome = λ h. absurd (false≢true (sym e ∙ h)); components = λ h. absurd (false≢true (sym e ∙ h)) }
+    go (Err r) (Err r') e = record { refusal = e; outcome = λ h. absurd (false≢true h); components = λ h. absurd (false≢true h) }
+    go (Ok _) (Err r') e = absurd e
+    go (Err r) (Ok _) e = absurd e
 
 pub alike-solved : AlikeSolvedTheorem
 alike-solved n s first second b y y' S P P' B Y Y' A e =

@@ -1,9 +1,7 @@
 -- Load order of two whole calls, the first on a matrix, the second on its reloading: the checks pass both, and what they hand back is
 -- alike. Proved as `calls` and, with contract numbers, as `numbered_calls` in proofs/Calls.antt.
-use Rattle.std.specs.Prelude.{◌≡◌, true, List, ℕ, ◌*◌, ◌≤◌, length, Float}
-use Rattle.arithmetic.specs.Outcome.{complete}
-use Rattle.arithmetic.specs.declared.outcome.Outcome.{Outcome}
-use Rattle.arithmetic.specs.declared.outcome.Outcome.TheVariants.{Complete}
+use Rattle.std.specs.Prelude.{◌≡◌, true, List, ℕ, ◌*◌, ◌≤◌, length, Float, Ok}
+use Rattle.arithmetic.specs.Outcome.{complete, Outcome}
 use Rattle.matrix.specs.Checks.{Distinct}
 use Rattle.matrix.specs.Matrix.{zeros}
 use Rattle.methods.specs.AcceptedMatrix.{AcceptedMatrix}
@@ -44,8 +42,8 @@ handed_back c = record { decomposition = c.decomposition; l = c.l; e = c.e; p = 
 
 -- ---- without contract numbers
 pub record CallsAlike (method n : ℕ) (s : List ℕ) (a a' : List Float) (b b' : LentBuffers) : Type 0 where
-  pub first : Passes Complete method n a b (called method n a b)
-  pub second : Passes Complete method n a' b' (called method n a' b')
+  pub first : Passes (Ok tt) method n a b (called method n a b)
+  pub second : Passes (Ok tt) method n a' b' (called method n a' b')
   pub alike : Alike n s (handed_back (called method n a b)) (handed_back (called method n a' b'))
 
 abbrev pub CallsTheorem : Type 0

@@ -1,10 +1,8 @@
 -- Load order of two solve calls (document 02, N3): the same L, at each pivot the same contract, the right side moving with its contracts.
 -- Proved as `solved` and, of two whole results, as `alike-solved` in proofs/Solve.antt.
-use Rattle.std.specs.Prelude.{◌≡◌, true, List, ℕ, ◌<◌, length, get_or, Float}
+use Rattle.std.specs.Prelude.{◌≡◌, true, List, ℕ, ◌<◌, length, get_or, Float, Ok}
 use Rattle.std.specs.Float.{nan}
-use Rattle.arithmetic.specs.Outcome.{complete, number}
-use Rattle.arithmetic.specs.declared.outcome.Outcome.{Outcome}
-use Rattle.arithmetic.specs.declared.outcome.Outcome.TheVariants.{Complete}
+use Rattle.arithmetic.specs.Outcome.{complete, number, Outcome}
 use Rattle.matrix.specs.Table.{table}
 use Rattle.methods.specs.Reloading.{LoadOrder}
 use Rattle.methods.specs.Result.{Result}
@@ -39,5 +37,5 @@ abbrev pub AlikeSolvedTheorem : Type 0
 AlikeSolvedTheorem =
     (n : ℕ) (s : List ℕ) (first second : Result) (b y y' : List Float)
     → LoadOrder n s → LoadOrder n first.p → LoadOrder n second.p → length b ≡ n → length y ≡ n → length y' ≡ n
-    → AlikeThroughout n s first second → first.decomposition.outcome ≡ Complete
+    → AlikeThroughout n s first second → first.decomposition.outcome ≡ Ok tt
     → SolvedAlike n s (solve_checks n first.l (length y) first.p b) (solve_call n first.l first.p b y) (solve_call n second.l second.p (reload_right n s b) y')

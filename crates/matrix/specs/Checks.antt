@@ -5,8 +5,8 @@ use Rattle.std.specs.Float.Ieee.{to_bits}
 use Rattle.std.specs.Float.Ieee.Scale.{finite}
 use Rattle.arithmetic.specs.First.{first, first_from}
 use Rattle.arithmetic.specs.Outcome.{refuse}
-use Rattle.arithmetic.specs.declared.outcome.Outcome.{Outcome}
-use Rattle.arithmetic.specs.declared.outcome.Outcome.TheVariants.{SizeOutOfRange, MatrixLength, BufferLength, IndexOutOfRange, NotFinite, Unsymmetric, NumbersLength, NumberRepeated, ListLength}
+use Rattle.arithmetic.specs.Outcome.{Outcome}
+use Rattle.arithmetic.specs.declared.refusal.Refusal.TheVariants.{SizeOutOfRange, MatrixLength, BufferLength, IndexOutOfRange, NotFinite, Unsymmetric, NumbersLength, NumberRepeated, ListLength}
 use Rattle.matrix.specs.Matrix.{at}
 
 -- 3: n of 0 or above 48

@@ -1,4 +1,6 @@
-// Entries of a matrix, and lists filled with one value.
+// Entries of a matrix, and lists filled with one value. A matrix is its list of entries with n beside it: the definitions take these two.
+// A struct of both would save the premise `Square`, but its clauses would read `m.now.n m.now.entries.now`, and around a buffer that is
+// written to each function would have a clause more for every buffer, that it is still the one lent.
 ghost use Rattle.std.specs.Prelude.{◌≡◌, ◌+◌, ◌*◌, ◌<◌, ◌≤◌, length};
 ghost use Rattle.matrix.specs.Matrix.{at, put, zeros, Square};
 
@@ -30,8 +32,5 @@ pub fn put(m: &mut [f64], n: usize, i: usize, j: usize, v: f64)
 pub fn clear(l: &mut [f64])
     ensures { l.new ≡ zeros (length l.old) }
 {
-    let n = l.len();
-    for i in 0..n {
-        l[i] = 0.0;
-    }
+    l.fill(0.0);
 }

@@ -1,7 +1,6 @@
 // src/utils.rs: swaps, searches, eigenvalues, permutation and diagonal matrices.
-ghost use Rattle.std.specs.Prelude.{◌≡◌, Bool, cond, ◌+◌, ◌*◌, ◌<◌, ◌≤◌, length};
+ghost use Rattle.std.specs.Prelude.{◌≡◌, Bool, ◌<◌, length};
 ghost use Rattle.std.specs.Float.{nan};
-ghost use Rattle.std.specs.Float.Ieee.{eq};
 ghost use Rattle.matrix.specs.Matrix.{Square};
 ghost use Rattle.matrix.specs.Swap.{swap, swap_rows, swap_columns};
 ghost use Rattle.matrix.specs.Search.{key, better, best_of, count_equal, largest};
@@ -12,7 +11,7 @@ ghost use Rattle.matrix.specs.Calls.{swap_checks, swap_rows_call, swap_columns_c
 use crate::checks;
 use crate::entries::{cell, clear, put};
 use arithmetic::double::{abs, finite};
-use arithmetic::outcome::Outcome;
+use arithmetic::refusal::{Refusal, refuse};
 use arithmetic::sqrt::sqrt_unchecked;
 
 // ---- swaps
@@ -21,9 +20,7 @@ pub fn swap(l: &mut [f64], x: usize, y: usize)
     requires { (x < length l.old) × (y < length l.old) }
     ensures { l.new ≡ swap nan l.old x y }
 {
-    let t = l[x];
-    l[x] = l[y];
-    l[y] = t;
+    l.swap(x, y);
 }
 
 pub fn swap_rows_unchecked(mat: &mut [f64], n: usize, idx1: usize, idx2: usize)
@@ -46,33 +43,29 @@ pub fn swap_columns_unchecked(mat: &mut [f64], n: usize, idx1: usize, idx2: usiz
     }
 }
 
-fn swap_checks(n: usize, len: usize, idx1: usize, idx2: usize) -> Outcome
+fn swap_checks(n: usize, len: usize, idx1: usize, idx2: usize) -> Result<(), Refusal>
     ensures { result ≡ swap_checks n len idx1 idx2 }
 {
-    checks::check_size(n)
-        .then(checks::check_matrix(n, len))
-        .then(checks::check_index(n, 0, idx1))
-        .then(checks::check_index(n, 1, idx2))
+    checks::check_size(n)?;
+    checks::check_matrix(n, len)?;
+    checks::check_index(n, 0, idx1)?;
+    checks::check_index(n, 1, idx2)
 }
 
-pub fn swap_rows(mat: &mut [f64], n: usize, idx1: usize, idx2: usize) -> Outcome
+pub fn swap_rows(mat: &mut [f64], n: usize, idx1: usize, idx2: usize) -> Result<(), Refusal>
     ensures { record { outcome = result; mat = mat.new } ≡ swap_rows_call n mat.old idx1 idx2 }
 {
-    let outcome = swap_checks(n, mat.len(), idx1, idx2);
-    if outcome.complete() {
-        swap_rows_unchecked(mat, n, idx1, idx2);
-    }
-    outcome
+    swap_checks(n, mat.len(), idx1, idx2)?;
+    swap_rows_unchecked(mat, n, idx1, idx2);
+    Ok(())
 }
 
-pub fn swap_columns(mat: &mut [f64], n: usize, idx1: usize, idx2: usize) -> Outcome
+pub fn swap_columns(mat: &mut [f64], n: usize, idx1: usize, idx2: usize) -> Result<(), Refusal>
     ensures { record { outcome = result; mat = mat.new } ≡ swap_columns_call n mat.old idx1 idx2 }
 {
-    let outcome = swap_checks(n, mat.len(), idx1, idx2);
-    if outcome.complete() {
-        swap_columns_unchecked(mat, n, idx1, idx2);
-    }
-    outcome
+    swap_checks(n, mat.len(), idx1, idx2)?;
+    swap_columns_unchecked(mat, n, idx1, idx2);
+    Ok(())
 }
 
 // ---- searches
@@ -91,6 +84,7 @@ pub struct Found {
     pub tied: bool,
 }
 
+// Two kinds of search, told apart as the definitions and the theorems on them do it.
 pub fn key(magnitude: bool, x: f64) -> f64
     ensures { result ≡ key magnitude x }
 {
@@ -115,28 +109,20 @@ fn best_of(magnitude: bool, c: &[f64]) -> Best
         max: key(magnitude, c[0]),
         index: 0,
     };
-    let n = c.len();
-    for i in 0..n {
-        s = better(s, key(magnitude, c[i]), i);
+    for (i, x) in c.iter().enumerate() {
+        s = better(s, key(magnitude, *x), i);
     }
     s
-}
-
-// One more where x and y are equal.
-fn tally(count: usize, x: f64, y: f64) -> usize
-    requires { count < 0x8000_0000_0000_0000 }
-    ensures { (result ≡ cond (eq x y) (count + 1) count) × (result ≤ count + 1) }
-{
-    if x == y { count + 1 } else { count }
 }
 
 fn count_equal(magnitude: bool, c: &[f64], x: f64) -> usize
     ensures { result ≡ count_equal magnitude c.now x }
 {
-    let mut count: usize = 0;
-    let n = c.len();
-    for i in 0..n {
-        count = tally(count, x, key(magnitude, c[i]));
+    let mut count = 0;
+    for y in c {
+        if x == key(magnitude, *y) {
+            count += 1;
+        }
     }
     count
 }
@@ -154,40 +140,27 @@ pub fn largest(magnitude: bool, c: &[f64]) -> Found
     }
 }
 
-// An index and how the call ended. Beside a refusal the index is 0.
-#[derive(Clone, Copy)]
-pub struct SearchAnswer {
-    pub outcome: Outcome,
-    pub index: usize,
-}
-
-fn search_checks(c: &[f64]) -> Outcome
+fn search_checks(c: &[f64]) -> Result<(), Refusal>
     ensures { result ≡ search_checks c.now }
 {
-    checks::check_some(c.len()).then(checks::check_finite(1, c))
+    checks::check_some(c.len())?;
+    checks::check_finite(1, c)
 }
 
-fn search(magnitude: bool, c: &[f64]) -> SearchAnswer
+fn search(magnitude: bool, c: &[f64]) -> Result<usize, Refusal>
     ensures { result ≡ search_call magnitude c.now }
 {
-    let outcome = search_checks(c);
-    if outcome.complete() {
-        let f = largest(magnitude, c);
-        return SearchAnswer {
-            outcome,
-            index: f.index,
-        };
-    }
-    SearchAnswer { outcome, index: 0 }
+    search_checks(c)?;
+    Ok(largest(magnitude, c).index)
 }
 
-pub fn index_of_largest(c: &[f64]) -> SearchAnswer
+pub fn index_of_largest(c: &[f64]) -> Result<usize, Refusal>
     ensures { result ≡ search_call Bool.false c.now }
 {
     search(false, c)
 }
 
-pub fn index_of_largest_abs(c: &[f64]) -> SearchAnswer
+pub fn index_of_largest_abs(c: &[f64]) -> Result<usize, Refusal>
     ensures { result ≡ search_call Bool.true c.now }
 {
     search(true, c)
@@ -226,44 +199,30 @@ pub fn eigenvalues_2x2_unchecked(mat: [[f64; 2]; 2]) -> Eigen
     ordered(l1, l2)
 }
 
-// Eigenvalues and how the call ended. Beside a refusal both are zero.
-#[derive(Clone, Copy)]
-pub struct EigenAnswer {
-    pub outcome: Outcome,
-    pub eigen: Eigen,
-}
-
 // 9, at step 0.
-fn check_eigen(e: Eigen) -> Outcome
+fn check_eigen(e: Eigen) -> Result<(), Refusal>
     ensures { result ≡ check_eigen e }
 {
-    if finite(e.hi) {
-        if finite(e.lo) {
-            return Outcome::Complete;
-        }
-    }
-    Outcome::StoredNotFinite { step: 0 }
+    refuse(
+        !(finite(e.hi) && finite(e.lo)),
+        Refusal::StoredNotFinite { step: 0 },
+    )
 }
 
-fn eigen_checks(mat: [[f64; 2]; 2], e: Eigen) -> Outcome
+fn eigen_checks(mat: [[f64; 2]; 2], e: Eigen) -> Result<(), Refusal>
     ensures { result ≡ eigen_checks mat e }
 {
     let entries = [mat[0][0], mat[0][1], mat[1][0], mat[1][1]];
-    checks::check_finite(2, &entries).then(check_eigen(e))
+    checks::check_finite(2, &entries)?;
+    check_eigen(e)
 }
 
-pub fn eigenvalues_2x2(mat: [[f64; 2]; 2]) -> EigenAnswer
+pub fn eigenvalues_2x2(mat: [[f64; 2]; 2]) -> Result<Eigen, Refusal>
     ensures { result ≡ eigenvalues_2x2_call mat }
 {
     let eigen = eigenvalues_2x2_unchecked(mat);
-    let outcome = eigen_checks(mat, eigen);
-    if outcome.complete() {
-        return EigenAnswer { outcome, eigen };
-    }
-    EigenAnswer {
-        outcome,
-        eigen: Eigen { hi: 0.0, lo: 0.0 },
-    }
+    eigen_checks(mat, eigen)?;
+    Ok(eigen)
 }
 
 // ---- permutation and diagonal matrices
@@ -275,28 +234,26 @@ pub fn index_to_permutation_mat_unchecked(idxs: &[usize], mat: &mut [f64])
 {
     clear(mat);
     let n = idxs.len();
-    for i in 0..n {
-        put(mat, n, i, idxs[i], 1.0);
+    for (i, idx) in idxs.iter().enumerate() {
+        put(mat, n, i, *idx, 1.0);
     }
 }
 
-fn permutation_checks(idxs: &[usize], len: usize) -> Outcome
+fn permutation_checks(idxs: &[usize], len: usize) -> Result<(), Refusal>
     ensures { result ≡ permutation_checks idxs.now len }
 {
     let n = idxs.len();
-    checks::check_size(n)
-        .then(checks::check_square_buffer(n, len))
-        .then(checks::check_indices(n, idxs))
+    checks::check_size(n)?;
+    checks::check_square_buffer(n, len)?;
+    checks::check_indices(n, idxs)
 }
 
-pub fn index_to_permutation_mat(idxs: &[usize], mat: &mut [f64]) -> Outcome
+pub fn index_to_permutation_mat(idxs: &[usize], mat: &mut [f64]) -> Result<(), Refusal>
     ensures { record { outcome = result; mat = mat.new } ≡ index_to_permutation_mat_call idxs.now mat.old }
 {
-    let outcome = permutation_checks(idxs, mat.len());
-    if outcome.complete() {
-        index_to_permutation_mat_unchecked(idxs, mat);
-    }
-    outcome
+    permutation_checks(idxs, mat.len())?;
+    index_to_permutation_mat_unchecked(idxs, mat);
+    Ok(())
 }
 
 pub fn diag_mat_from_arr_unchecked(arr: &[f64], mat: &mut [f64])
@@ -305,26 +262,24 @@ pub fn diag_mat_from_arr_unchecked(arr: &[f64], mat: &mut [f64])
 {
     clear(mat);
     let n = arr.len();
-    for i in 0..n {
-        put(mat, n, i, i, arr[i]);
+    for (i, x) in arr.iter().enumerate() {
+        put(mat, n, i, i, *x);
     }
 }
 
-fn diagonal_checks(arr: &[f64], len: usize) -> Outcome
+fn diagonal_checks(arr: &[f64], len: usize) -> Result<(), Refusal>
     ensures { result ≡ diagonal_checks arr.now len }
 {
     let n = arr.len();
-    checks::check_size(n)
-        .then(checks::check_square_buffer(n, len))
-        .then(checks::check_finite(1, arr))
+    checks::check_size(n)?;
+    checks::check_square_buffer(n, len)?;
+    checks::check_finite(1, arr)
 }
 
-pub fn diag_mat_from_arr(arr: &[f64], mat: &mut [f64]) -> Outcome
+pub fn diag_mat_from_arr(arr: &[f64], mat: &mut [f64]) -> Result<(), Refusal>
     ensures { record { outcome = result; mat = mat.new } ≡ diag_mat_from_arr_call arr.now mat.old }
 {
-    let outcome = diagonal_checks(arr, mat.len());
-    if outcome.complete() {
-        diag_mat_from_arr_unchecked(arr, mat);
-    }
-    outcome
+    diagonal_checks(arr, mat.len())?;
+    diag_mat_from_arr_unchecked(arr, mat);
+    Ok(())
 }

@@ -10,8 +10,9 @@ use lib.ListN.{length, get_or}
 use lib.Ieee.{Float, nan, binary64, fits, to_bits}
 use lib.Ieee.Scale.{finite}
 use borrow.Author.Tests.{not-false, leb-true, le-leb, eq-eqb}
-use Rattle.arithmetic.specs.declared.outcome.Outcome.{Outcome}
-use Rattle.arithmetic.specs.declared.outcome.Outcome.TheVariants.{Complete, UnknownMethod, MatrixLength, BufferLength, NumbersLength}
+use Rattle.arithmetic.specs.Outcome.{Outcome}
+use Rattle.std.specs.Prelude.{Ok}
+use Rattle.arithmetic.specs.declared.refusal.Refusal.TheVariants.{UnknownMethod, MatrixLength, BufferLength, NumbersLength}
 use Rattle.arithmetic.proofs.OrderLaws.{and_1, and_2}
 use Rattle.arithmetic.proofs.OutcomeLaws.{refuse-complete}
 use Rattle.matrix.specs.Matrix.{at}
@@ -22,8 +23,8 @@ use Rattle.arithmetic.specs.DoubleList.{AllDoubles}
 use Rattle.methods.specs.Accepted.{AcceptedOperands, AcceptedTheorem, AcceptedNumbers, AcceptedNumberedTheorem}
 use Rattle.methods.specs.AcceptedMatrix.{AcceptedMatrix}
 use Rattle.methods.specs.Reloading.{LoadOrder, reload}
-use Rattle.methods.specs.Calls.{check_method, number_checks, operand_chain, operand_checks, factor_checks}
-use Rattle.methods.proofs.CallLaws.{chain_passed}
+use Rattle.methods.specs.Calls.{check_method, number_checks, operand_checks, factor_checks}
+use Rattle.methods.proofs.CallLaws.{operands_chain}
 use Rattle.methods.proofs.LoadOrders.{order}
 use Rattle.methods.proofs.Loaded.{loaded}
 
@@ -50,13 +51,13 @@ module _ (n : ℕ) (a : List Float) (some : 1 ≤ n) (A : AcceptedMatrix n a) wh
 -- ---- both directions
 method_accepted : (method : ℕ) → Accepted (check_method method) → (1 ≤ method) × (method ≤ 3)
 method_accepted method h =
-    let t : (leb 1 method && leb method 3) ≡ true = not-false (leb 1 method && leb method 3) (refuse-complete (not (leb 1 method && leb method 3)) UnknownMethod refl h.is) in
+    let t : (leb 1 method && leb method 3) ≡ true = not-false (leb 1 method && leb method 3) (refuse-complete (not (leb 1 method && leb method 3)) UnknownMethod h.is) in
     (leb-true 1 method (and_1 (leb 1 method) (leb method 3) t), leb-true method 3 (and_2 (leb 1 method) (leb method 3) t))
 
 module _ (method n : ℕ) (a : List Float) (numbering : Outcome) (l work e p : ℕ) where
   operands_passed : Accepted (operand_checks method n (length a) numbering l work e p) → AllDoubles a → Accepted (check_finite n a) → Accepted (check_symmetric n a) → AcceptedOperands method n a l work e p × Accepted numbering
   operands_passed h d f y =
-      let C = chain_passed _ _ _ _ _ _ _ _ h in
+      let C = operands_chain method n a numbering l work e p h in
       let method_is = method_accepted method C.method_is in
       let size_is = C.size_is in
       let entries = matrix-accepted n (length a) C.matrix-is in
@@ -81,11 +82,9 @@ module _ (method n : ℕ) (a : List Float) (numbering : Outcome) (l work e p : �
       )
 
   passed : AllDoubles a → Accepted (factor_checks method n a numbering l work e p) → AcceptedOperands method n a l work e p × Accepted numbering
-  unfolding factor_checks
   passed d h = let y = both_accepted _ _ h in let f = both_accepted _ _ y.0 in operands_passed f.0 d f.1 y.1
 
   pub passes : Accepted numbering → AcceptedOperands method n a l work e p → Accepted (factor_checks method n a numbering l work e p)
-  unfolding factor_checks operand_chain
   passes N O =
       let buffer : (wanted len : ℕ) → len ≡ wanted → Accepted (check_buffer wanted len) = λ wanted len e. length-passes wanted len BufferLength e in
       let sized = then_accepted (method_passes method O.method_from O.method_to) (size_passes n O.rows_from O.rows_to) in
@@ -96,15 +95,13 @@ module _ (method n : ℕ) (a : List Float) (numbering : Outcome) (l work e p : �
 
 pub accepted : AcceptedTheorem
 accepted method n a l work e p d =
-    (λ h. (passed method n a Complete l work e p d (record { is = h })).0, λ O. (passes method n a Complete l work e p (record { is = refl }) O).is)
+    (λ h. (passed method n a (Ok tt) l work e p d (record { is = h })).0, λ O. (passes method n a (Ok tt) l work e p (record { is = refl }) O).is)
 
 -- ---- numbers
 pub numbers-pass : (n : ℕ) (numbers : List ℕ) → AcceptedNumbers n numbers → Accepted (number_checks n numbers)
-unfolding number_checks
 numbers-pass n numbers N = then_accepted (length-passes n (length numbers) NumbersLength N.len) (distinct-passes numbers N.distinct)
 
 numbers-passed : (n : ℕ) (numbers : List ℕ) → Accepted (number_checks n numbers) → AcceptedNumbers n numbers
-unfolding number_checks
 numbers-passed n numbers h = let b = both_accepted _ _ h in record { len = numbers-accepted n (length numbers) b.0; distinct = distinct-accepted numbers b.1 }
 
 pub accepted_numbered : AcceptedNumberedTheorem

@@ -5,8 +5,7 @@ use mathlib.Core.Bool.{true, false}
 use Prim.Native.Nat.{ℕ}
 use lib.ListN.{length}
 use lib.Ieee.{Float}
-use Rattle.arithmetic.specs.Outcome.{complete}
-use Rattle.arithmetic.specs.declared.outcome.Outcome.{Outcome}
+use Rattle.arithmetic.specs.Outcome.{complete, Outcome}
 use Rattle.methods.specs.Calls.{Call, untouched, answered, method_of, factor_checks, call_with}
 use Rattle.methods.specs.Factor.{factor, tolerances}
 

@@ -8,11 +8,10 @@ use native.Mathlib.Omega.{arith}
 use lib.Dec.{T}
 use lib.ListN.{length, get_or}
 use lib.Ieee.{Float, nan, binary64, fits}
-use Rattle.arithmetic.specs.Outcome.{complete, ◌then◌}
+use Rattle.arithmetic.specs.Outcome.{complete, ◌then◌, Outcome}
 use Rattle.arithmetic.proofs.Cases.{Is, is, holds, fails}
-use Rattle.arithmetic.specs.declared.outcome.Outcome.{Outcome}
 use Rattle.matrix.specs.Matrix.{Square}
-use Rattle.matrix.specs.Checks.{check_size, AllFinite}
+use Rattle.matrix.specs.Checks.{check_matrix, check_buffer, check_size, AllFinite}
 use Rattle.matrix.proofs.CheckLaws.{Accepted, refused, both_accepted, size_accepted, matrix-accepted, buffer_accepted, entries-accepted, symmetric-accepted}
 use Rattle.methods.specs.Elimination.{Symmetric}
 use Rattle.methods.specs.Calls.{check_method, operand_chain, operand_checks, factor_checks, call_with, Operands}
@@ -29,7 +28,6 @@ too_large method n h = go (is (complete (check_method method then check_size n))
     go (fails e) = e
 
 chain_refused : (method n : ℕ) (matrix numbering l work e p : Outcome) → 48 < n → operand_chain method n matrix numbering l work e p ≡ (check_method method then check_size n)
-unfolding operand_chain
 chain_refused method n matrix numbering l work e p h =
     let o = check_method method then check_size n in
     let z = too_large method n h in
@@ -43,7 +41,7 @@ chain_same method n matrix x y l work e p h = elim (dec_lt 48 n) [
 ]
 
 pub call_same : (x y : Outcome) (numbers : List ℕ) (method n : ℕ) (a l work e : List Float) (p : List ℕ) → (n ≤ 48 → x ≡ y) → call_with x numbers method n a l work e p ≡ call_with y numbers method n a l work e p
-unfolding call_with factor_checks
+unfolding call_with
 call_same x y numbers method n a l work e p h = rw (chain_same method n _ x y _ _ _ _ h)
 
 -- ---- each check of a chain that passes
@@ -58,7 +56,6 @@ pub record ChainPassed (method n : ℕ) (matrix numbering l work e p : Outcome) 
   pub p_is : Accepted p
 
 pub chain_passed : (method n : ℕ) (matrix numbering l work e p : Outcome) → Accepted (operand_chain method n matrix numbering l work e p) → ChainPassed method n matrix numbering l work e p
-unfolding operand_chain
 chain_passed method n matrix numbering l work e p h =
     let P = both_accepted _ _ h in
     let E = both_accepted _ _ P.0 in
@@ -72,12 +69,15 @@ chain_passed method n matrix numbering l work e p h =
 
 -- ---- the premises of check 8: those of 2 to 5 and of 7 passed
 module _ (method n : ℕ) (a : List Float) (numbering : Outcome) (l work e p : ℕ) where
+  pub operands_chain : Accepted (operand_checks method n (length a) numbering l work e p) → ChainPassed method n (check_matrix n (length a)) numbering (check_buffer (n * n) l) (check_buffer (n * n) work) (check_buffer n e) (check_buffer n p)
+  operands_chain = chain_passed _ _ _ _ _ _ _ _
+
   pub square-operand : Accepted (operand_checks method n (length a) numbering l work e p) → Square n a
-  square-operand h = let C = chain_passed _ _ _ _ _ _ _ _ h in record { len = matrix-accepted n (length a) C.matrix-is; small = C.size_is.1 }
+  square-operand h = let C = operands_chain h in record { len = matrix-accepted n (length a) C.matrix-is; small = C.size_is.1 }
 
   operands_accepted : Accepted (operand_checks method n (length a) numbering l work e p) → AllFinite n a → Symmetric n a → Operands n a l work e p
   operands_accepted h f y =
-      let C = chain_passed _ _ _ _ _ _ _ _ h in
+      let C = operands_chain h in
       record {
         some = C.size_is.0;
         square = square-operand h;
@@ -90,7 +90,6 @@ module _ (method n : ℕ) (a : List Float) (numbering : Outcome) (l work e p : �
       }
 
   pub factor-accepted : ((k : ℕ) → T (fits binary64 (get_or a k nan))) → Accepted (factor_checks method n a numbering l work e p) → Operands n a l work e p
-  unfolding factor_checks
   factor-accepted d h =
       let y = both_accepted _ _ h in
       let f = both_accepted _ _ y.0 in

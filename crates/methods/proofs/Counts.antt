@@ -14,13 +14,12 @@ use Rattle.arithmetic.specs.Sqrt.{inexact}
 use Rattle.arithmetic.proofs.LoopLaws.{range-ind}
 use Rattle.arithmetic.proofs.Cases.{Is, is, holds, fails}
 use Rattle.matrix.specs.Matrix.{at}
-use Rattle.methods.specs.Marks.{marked}
+use Rattle.methods.specs.Marks.{marked, Mark}
 use Rattle.methods.specs.Progress.{one_if, stopped}
 use Rattle.methods.specs.Statements.{diagonal_max, pivot_matrix}
 use Rattle.methods.specs.Gmw81 as gmw
 use Rattle.methods.specs.Se.{Run, start, leaves_before, leaves_after, leave, pivot, factorize, step_at, in_phase_one, phase_one, phase_two_step_at, phase_two_step, pair_of, one_of, add_pair, add_one, add_last, rows_of, last_pair, last_one, begin, pairs, phase_two_from, phase_two_after, run}
-use Rattle.methods.specs.declared.decomposition.Mark.{Mark}
-use Rattle.methods.specs.declared.decomposition.Mark.TheVariants.{Never, Step}
+use Rattle.std.specs.Prelude.{None, Some}
 use Rattle.methods.specs.declared.schnabel_eskow.Last.{Last}
 use Rattle.methods.specs.declared.schnabel_eskow.Last.TheVariants.{One, Pair}
 use Rattle.methods.specs.declared.schnabel_eskow.Tolerances.{Tolerances}
@@ -87,22 +86,22 @@ module _ (v : Variant) (t : Tolerances) (numbers : List ℕ) (gamma : Float) (n 
 -- ---- before step j of phase one at most j are counted, and at most k where it was left at k
 pub record LeftAt (j : ℕ) (s : Run) : Type 0 where
   pub most : AtMost j s
-  pub left : (k : ℕ) → s.progress.phase2 ≡ Step k → AtMost k s
+  pub left : (k : ℕ) → s.progress.phase2 ≡ Some k → AtMost k s
 
-leave-left : (j : ℕ) (s : Run) → s.progress.phase2 ≡ Never → AtMost j s → LeftAt (suc j) (leave j s)
-leave-left j s m b = record { most = omega arith; left = λ k e. let z : Step j ≡ Step k = rw m at e in let i : j ≡ k = cc in omega arith }
+leave-left : (j : ℕ) (s : Run) → s.progress.phase2 ≡ None → AtMost j s → LeftAt (suc j) (leave j s)
+leave-left j s m b = record { most = omega arith; left = λ k e. let z : Some j ≡ Some k = rw m at e in let i : j ≡ k = cc in omega arith }
 
-still_in : (j : ℕ) (s : Run) → s.progress.phase2 ≡ Never → AtMost j s → LeftAt j s
+still_in : (j : ℕ) (s : Run) → s.progress.phase2 ≡ None → AtMost j s → LeftAt j s
 still_in j s m b = record { most = b; left = λ k e. clash s.progress.phase2 k m e }
 
-factorize-in : (n j : ℕ) (s : Run) → s.progress.phase2 ≡ Never → AtMost j s → LeftAt (suc j) (factorize n j s)
+factorize-in : (n j : ℕ) (s : Run) → s.progress.phase2 ≡ None → AtMost j s → LeftAt (suc j) (factorize n j s)
 factorize-in n j s m b = still_in (suc j) (factorize n j s) (same m) (omega (arith, factorize-count n j s))
   where
-    same : s.progress.phase2 ≡ Never → (factorize n j s).progress.phase2 ≡ Never
+    same : s.progress.phase2 ≡ None → (factorize n j s).progress.phase2 ≡ None
     same e = unfold factorize in e
 
 module _ (v : Variant) (t : Tolerances) (numbers : List ℕ) (gamma : Float) (n : ℕ) where
-  step_at-left : (j k : ℕ) (tie : Bool) (s : Run) → s.progress.phase2 ≡ Never → AtMost j s → LeftAt (suc j) (step_at v t gamma n j k tie s)
+  step_at-left : (j k : ℕ) (tie : Bool) (s : Run) → s.progress.phase2 ≡ None → AtMost j s → LeftAt (suc j) (step_at v t gamma n j k tie s)
   unfolding pivot
   step_at-left j k tie s m b =
       let s₁ = pivot n j k tie s in
@@ -159,9 +158,9 @@ module _ (v : Variant) (t : Tolerances) (numbers : List ℕ) (gamma : Float) (n 
       go (holds e) = rw (phase_two_from-is, e) (last_one-count s (omega arith) (omega (arith, eqb-true k (n - 1) e)))
       go (fails e) = rw (phase_two_from-is, e) (pairs-count k s (omega (arith, eqb-false k (n - 1) e)) b)
 
-  after-count : (m : Mark) (s : Run) → ((k : ℕ) → m ≡ Step k → (k < n) × AtMost k s) → AtMost n s → AtMost n (phase_two_after v t numbers gamma n m s)
-  after-count Never s h b = rw (after_never v t numbers gamma n Never s refl) b
-  after-count (Step k) s h b = rw (after-step v t numbers gamma n (Step k) k s refl) (from-count k s (h k refl).0 (h k refl).1)
+  after-count : (m : Mark) (s : Run) → ((k : ℕ) → m ≡ Some k → (k < n) × AtMost k s) → AtMost n s → AtMost n (phase_two_after v t numbers gamma n m s)
+  after-count None s h b = rw (after_never v t numbers gamma n None s refl) b
+  after-count (Some k) s h b = rw (after-step v t numbers gamma n (Some k) k s refl) (from-count k s (h k refl).0 (h k refl).1)
 
 pub se_count : (v : Variant) (t : Tolerances) (numbers : List ℕ) (n : ℕ) (a : List Float) → (run v t numbers n a).progress.inexact ≤ n
 se_count v t numbers n a =

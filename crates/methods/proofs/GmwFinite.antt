@@ -13,7 +13,7 @@ use Rattle.arithmetic.proofs.OrderLaws.{and_1}
 use Rattle.matrix.specs.Matrix.{at}
 use Rattle.methods.specs.Gmw81.{Run, start, divide_row, stored_finite, step_at, step}
 use Rattle.methods.specs.Statements.{pivot_matrix}
-use Rattle.methods.specs.declared.decomposition.Mark.TheVariants.{Never}
+use Rattle.std.specs.Prelude.{None}
 use Rattle.methods.proofs.FiniteEntries.{FiniteEntries, pivot-finite}
 use Rattle.methods.proofs.GmwLaws.{started_is, step-at_is}
 use Rattle.methods.proofs.GmwRuns.{steps_keep, l₂Of, c₃Of, step-never}
@@ -40,7 +40,7 @@ divided_finite n j c d l pj F f =
 
 -- ---- until the run is refused
 abbrev pub FiniteRun : ℕ → Run → Type 0
-FiniteRun n s = s.progress.refused ≡ Never → FiniteEntries n s.l
+FiniteRun n s = s.progress.refused ≡ None → FiniteEntries n s.l
 
 step-finite : (n : ℕ) (delta beta : Float) (j k : ℕ) (tie : Bool) (s : Run) → j < n → j + k < n → FiniteRun n s → FiniteRun n (step_at n delta beta j k tie s)
 step-finite n delta beta j k tie s pj pk F e =

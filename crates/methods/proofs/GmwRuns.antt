@@ -14,7 +14,7 @@ use Rattle.methods.specs.Marks.{marked}
 use Rattle.methods.specs.Progress.{stopped}
 use Rattle.methods.specs.Statements.{pivot_matrix}
 use Rattle.methods.specs.Gmw81.{Run, start, divide_row, update_diagonal, c₂Of, dj_of, stored_finite, step_at, step, finish, run, stepped}
-use Rattle.methods.specs.declared.decomposition.Mark.TheVariants.{Never}
+use Rattle.std.specs.Prelude.{None}
 use Rattle.methods.proofs.GmwLaws.{started_is, step-at_is, step_stays, step-goes, finish-stays, finish-order}
 use Rattle.methods.proofs.Pivots.{diagonal-below, Permuted, identity-permuted, pivot-permuted}
 use Rattle.methods.proofs.Refused.{NotRefused, goes_on, unmarked_never}
@@ -27,7 +27,7 @@ pub record KeptBySteps (n : ℕ) (delta beta : Float) (P : ℕ → Run → Type 
 module _ (numbers : List ℕ) (n : ℕ) (delta beta : Float) (P : ℕ → Run → Type 0) (K : KeptBySteps n delta beta P) where
   -- GMW81 has no phase two, so a run that stopped was refused
   record Kept (j : ℕ) (s : Run) : Type 0 where
-    one-phase : s.progress.phase2 ≡ Never
+    one-phase : s.progress.phase2 ≡ None
     kept : P j s
 
   step_keeps : (j : ℕ) (s : Run) → j < n → Kept j s → Kept (suc j) (step numbers n delta beta j s)
@@ -64,7 +64,7 @@ step_e n delta beta j k s = step_d n delta beta j k s ⊖ at n (c₃Of n delta b
 abbrev pub step_test : ℕ → Float → Float → ℕ → ℕ → Run → Bool
 step_test n delta beta j k s = stored_finite n j (l₂Of n j k s) (c₃Of n delta beta j k s) (step_d n delta beta j k s) (step_e n delta beta j k s)
 
-pub step-never : (n : ℕ) (delta beta : Float) (j k : ℕ) (tie : Bool) (s : Run) → (step_at n delta beta j k tie s).progress.refused ≡ Never → NotRefused s.progress.refused (step_test n delta beta j k s)
+pub step-never : (n : ℕ) (delta beta : Float) (j k : ℕ) (tie : Bool) (s : Run) → (step_at n delta beta j k tie s).progress.refused ≡ None → NotRefused s.progress.refused (step_test n delta beta j k s)
 step-never n delta beta j k tie s e = goes_on s.progress.refused (step_test n delta beta j k s) j (rw step-at_is at e)
 
 -- ---- the steps of a run, and its end
@@ -75,9 +75,9 @@ run_is numbers n a = refl
 pub run-permuted : (numbers : List ℕ) (n : ℕ) (a : List Float) → Permuted n (run numbers n a).p
 run-permuted numbers n a = rw (run_is numbers n a, finish-order n (stepped numbers n a)) (steps_permuted numbers n _ _ a)
 
-pub finish-never : (n : ℕ) (s : Run) → (finish n s).progress.refused ≡ Never → s.progress.refused ≡ Never
+pub finish-never : (n : ℕ) (s : Run) → (finish n s).progress.refused ≡ None → s.progress.refused ≡ None
 finish-never n s = go (is (marked s.progress.refused))
   where
-    go : Is (marked s.progress.refused) → (finish n s).progress.refused ≡ Never → s.progress.refused ≡ Never
+    go : Is (marked s.progress.refused) → (finish n s).progress.refused ≡ None → s.progress.refused ≡ None
     go (holds h) e = rw (finish-stays n s h) at e
     go (fails h) e = unmarked_never s.progress.refused h

@@ -11,12 +11,11 @@ use Rattle.arithmetic.specs.Double.{plus_zero, one, ◌⊘◌}
 use Rattle.arithmetic.specs.Loop.{range}
 use Rattle.matrix.specs.Matrix.{Square, at, put}
 use Rattle.matrix.proofs.EntryLaws.{put_entries, at_put_same}
-use Rattle.methods.specs.Marks.{mark, marked}
+use Rattle.methods.specs.Marks.{mark, marked, Mark}
 use Rattle.methods.specs.Progress.{stopped}
 use Rattle.methods.specs.Statements.{diagonal, diagonal_max, pick, pivot_matrix}
 use Rattle.methods.specs.Se.{Run, start, leaves_before, leaves_after, leave, pivot, factorize, step_at, phase_one_step, in_phase_one, phase_one, phase_two_step_at, phase_two_step, pair_of, one_of, add_last, rows_of, last_pair, last_one, begin, pairs, phase_two_from, phase_two_after, phase_two, run}
-use Rattle.methods.specs.declared.decomposition.Mark.{Mark}
-use Rattle.methods.specs.declared.decomposition.Mark.TheVariants.{Never, Step}
+use Rattle.std.specs.Prelude.{None, Some}
 use Rattle.methods.specs.declared.schnabel_eskow.Tolerances.{Tolerances}
 use Rattle.methods.specs.declared.schnabel_eskow.Variant.{Variant}
 use Rattle.methods.specs.declared.schnabel_eskow.Last.{Last}
@@ -97,11 +96,11 @@ module _ (v : Variant) (t : Tolerances) (numbers : List ℕ) (gamma : Float) (n 
   unfolding phase_two_from
   phase_two_from-is k s = refl
 
-  pub after_never : (m : Mark) (s : Run) → m ≡ Never → phase_two_after v t numbers gamma n m s ≡ s
+  pub after_never : (m : Mark) (s : Run) → m ≡ None → phase_two_after v t numbers gamma n m s ≡ s
   unfolding phase_two_after
   after_never m s e = rw e
 
-  pub after-step : (m : Mark) (k : ℕ) (s : Run) → m ≡ Step k → phase_two_after v t numbers gamma n m s ≡ phase_two_from v t numbers gamma n k s
+  pub after-step : (m : Mark) (k : ℕ) (s : Run) → m ≡ Some k → phase_two_after v t numbers gamma n m s ≡ phase_two_from v t numbers gamma n k s
   unfolding phase_two_after
   after-step m k s e = rw e
 
@@ -123,12 +122,12 @@ rows-of_one v t gamma ljj last e = rw e
 
 -- ---- marks of steps below n
 abbrev pub Below : ℕ → Mark → Type 0
-Below n m = (k : ℕ) → m ≡ Step k → k < n
+Below n m = (k : ℕ) → m ≡ Some k → k < n
 
-pub never_below : (n : ℕ) → Below n Never
+pub never_below : (n : ℕ) → Below n None
 never_below n k e = absurd (let z : ◌≡◌ {A = ℕ} 0 1 = cc in omega arith)
 
 pub mark-below : (n j : ℕ) (m : Mark) (b : Bool) → j < n → Below n m → Below n (mark m b j)
-mark-below n j Never true h B k e = let z : j ≡ k = cc in omega arith
-mark-below n j Never false h B k e = B k e
-mark-below n j (Step i) b h B k e = B k e
+mark-below n j None true h B k e = let z : j ≡ k = cc in omega arith
+mark-below n j None false h B k e = B k e
+mark-below n j (Some i) b h B k e = B k e

@@ -17,12 +17,11 @@ use Rattle.arithmetic.proofs.LoopLaws.{range_none, range-ind}
 use Rattle.arithmetic.proofs.OrderLaws.{or_1}
 use Rattle.matrix.specs.Matrix.{at}
 use Rattle.arithmetic.proofs.Cases.{Is, is, holds, fails}
-use Rattle.methods.specs.Marks.{marked}
+use Rattle.methods.specs.Marks.{marked, Mark}
 use Rattle.methods.specs.Progress.{stopped}
 use Rattle.methods.specs.Statements.{diagonal_max, pivot_matrix}
 use Rattle.methods.specs.Se.{Run, start, leaves_before, leaves_after, leave, pivot, factorize, step_at, phase_one_step, in_phase_one, phase_one, row_sum, column_sum, bounds, update_bounds, phase_two_step_at, phase_two_step, pair_of, one_of, add_pair, add_one, last_pair, last_one, begin, pairs, phase_two_from, phase_two_after, phase_two, run}
-use Rattle.methods.specs.declared.decomposition.Mark.{Mark}
-use Rattle.methods.specs.declared.decomposition.Mark.TheVariants.{Never, Step}
+use Rattle.std.specs.Prelude.{None, Some}
 use Rattle.methods.specs.declared.schnabel_eskow.Tolerances.{Tolerances}
 use Rattle.methods.specs.declared.schnabel_eskow.Variant.{Variant}
 use Rattle.methods.proofs.Moved.{length-pivot}
@@ -36,9 +35,9 @@ Leaves v t gamma n j l = (leaves_before v t gamma n j l ≡ true) ⊎ (leaves_af
 
 -- ---- P holds after each statement of phase one where it holds before
 pub record KeptInPhaseOne (v : Variant) (t : Tolerances) (gamma : Float) (n : ℕ) (P : Run → Type 0) : Type 0 where
-  pub by_leave : (j : ℕ) (s : Run) → j < n → s.progress.phase2 ≡ Never → Leaves v t gamma n j s.l → P s → P (leave j s)
-  pub by_pivot : (j k : ℕ) (tie : Bool) (s : Run) → j < n → j + k < n → s.progress.phase2 ≡ Never → P s → P (pivot n j k tie s)
-  pub by_factorize : (j : ℕ) (s : Run) → j < n → s.progress.phase2 ≡ Never → P s → P (factorize n j s)
+  pub by_leave : (j : ℕ) (s : Run) → j < n → s.progress.phase2 ≡ None → Leaves v t gamma n j s.l → P s → P (leave j s)
+  pub by_pivot : (j k : ℕ) (tie : Bool) (s : Run) → j < n → j + k < n → s.progress.phase2 ≡ None → P s → P (pivot n j k tie s)
+  pub by_factorize : (j : ℕ) (s : Run) → j < n → s.progress.phase2 ≡ None → P s → P (factorize n j s)
 
 -- ---- Q holds after phase one where P does, and after each statement of phase two where it holds before
 pub record KeptInPhaseTwo (v : Variant) (t : Tolerances) (gamma : Float) (n : ℕ) (P Q : Run → Type 0) : Type 0 where
@@ -46,11 +45,11 @@ pub record KeptInPhaseTwo (v : Variant) (t : Tolerances) (gamma : Float) (n : �
   pub by_begin : (k : ℕ) (s : Run) → k < n → Q s → Q (begin n k s)
   pub by_step : (j k : ℕ) (s : Run) → j < n → j + k < n → Q s → Q (phase_two_step_at v t gamma n j k s)
   pub by_pair : (s : Run) → 2 ≤ n → Q s → Q (last_pair v t gamma n s)
-  pub by_one : (s : Run) → 1 ≤ n → s.progress.phase2 ≡ Step (n - 1) → P s → Q (last_one v t gamma n s)
+  pub by_one : (s : Run) → 1 ≤ n → s.progress.phase2 ≡ Some (n - 1) → P s → Q (last_one v t gamma n s)
 
 -- ---- phase one
 module _ (v : Variant) (t : Tolerances) (numbers : List ℕ) (gamma : Float) (n : ℕ) (P : Run → Type 0) (K : KeptInPhaseOne v t gamma n P) where
-  step_at-keeps : (j k : ℕ) (tie : Bool) (s : Run) → j < n → j + k < n → s.progress.phase2 ≡ Never → P s → P (step_at v t gamma n j k tie s)
+  step_at-keeps : (j k : ℕ) (tie : Bool) (s : Run) → j < n → j + k < n → s.progress.phase2 ≡ None → P s → P (step_at v t gamma n j k tie s)
   step_at-keeps j k tie s h hk m b = subst P (sym (step_at-is v t gamma n j k tie s)) (go (is (leaves_after v t gamma n j (pivot_matrix n j k s.l))))
     where
       s₁ : Run
@@ -63,7 +62,7 @@ module _ (v : Variant) (t : Tolerances) (numbers : List ℕ) (gamma : Float) (n 
       go (holds e) = rw e (K.by_leave j s₁ h (unfold pivot in m) (inr (unfold pivot in e)) b₁)
       go (fails e) = rw e (K.by_factorize j s₁ h (unfold pivot in m) b₁)
 
-  phase_one_step-keeps : (j : ℕ) (s : Run) → j < n → s.progress.phase2 ≡ Never → P s → P (phase_one_step v t numbers gamma n j s)
+  phase_one_step-keeps : (j : ℕ) (s : Run) → j < n → s.progress.phase2 ≡ None → P s → P (phase_one_step v t numbers gamma n j s)
   phase_one_step-keeps j s h m b = go (is (leaves_before v t gamma n j s.l))
     where
       go : Is (leaves_before v t gamma n j s.l) → P (phase_one_step v t numbers gamma n j s)
@@ -148,16 +147,16 @@ module _ (v : Variant) (t : Tolerances) (numbers : List ℕ) (gamma : Float) (n 
       let b₁ = steps_keep k (begin n k s) (record { sized = sized_begin n k s h b.sized; kept = K.by_begin k s h b.kept }) in
       subst Q (sym (pairs_is v t numbers gamma n k s)) (cond_keeps Q (marked s₁.progress.refused) _ _ b₁.kept (K.by_pair s₁ h2 b₁.kept))
 
-  from-keeps : (k : ℕ) (s : Run) → k < n → s.progress.phase2 ≡ Step k → Sized n s → P s → Q (phase_two_from v t numbers gamma n k s)
+  from-keeps : (k : ℕ) (s : Run) → k < n → s.progress.phase2 ≡ Some k → Sized n s → P s → Q (phase_two_from v t numbers gamma n k s)
   from-keeps k s h m z b = subst Q (sym (phase_two_from-is v t numbers gamma n k s)) (go (is (eqb k (n - 1))))
     where
       go : Is (eqb k (n - 1)) → Q (cond (eqb k (n - 1)) (last_one v t gamma n s) (pairs v t numbers gamma n k s))
-      go (holds e) = rw e (K.by_one s (omega arith) (m ∙ ap Step (eqb-true k (n - 1) e)) b)
+      go (holds e) = rw e (K.by_one s (omega arith) (m ∙ ap Some (eqb-true k (n - 1) e)) b)
       go (fails e) = rw e (pairs-keep k s h (omega (arith, eqb-false k (n - 1) e)) (record { sized = z; kept = K.after_one s b }))
 
   after-keeps : (m : Mark) (s : Run) → s.progress.phase2 ≡ m → Below n m → Sized n s → P s → Q (phase_two_after v t numbers gamma n m s)
-  after-keeps Never s e h z b = subst Q (sym (after_never v t numbers gamma n Never s refl)) (K.after_one s b)
-  after-keeps (Step k) s e h z b = subst Q (sym (after-step v t numbers gamma n (Step k) k s refl)) (from-keeps k s (h k refl) e z b)
+  after-keeps None s e h z b = subst Q (sym (after_never v t numbers gamma n None s refl)) (K.after_one s b)
+  after-keeps (Some k) s e h z b = subst Q (sym (after-step v t numbers gamma n (Some k) k s refl)) (from-keeps k s (h k refl) e z b)
 
 -- after phase one from the start
 pub phase_two-keeps : (v : Variant) (t : Tolerances) (numbers : List ℕ) (gamma : Float) (n : ℕ) (a : List Float) (P Q : Run → Type 0) → KeptInPhaseTwo v t gamma n P Q

@@ -8,15 +8,15 @@ use Rattle.arithmetic.proofs.OrderLaws.{or_1, or_2}
 use Rattle.methods.specs.Marks.{marked}
 use Rattle.methods.specs.Progress.{stopped}
 use Rattle.methods.specs.Se.{Run, phase_one_step, in_phase_one}
-use Rattle.methods.specs.declared.decomposition.Mark.TheVariants.{Never}
+use Rattle.std.specs.Prelude.{None}
 use Rattle.methods.specs.declared.progress.Progress.{Progress}
 use Rattle.methods.specs.declared.schnabel_eskow.Tolerances.{Tolerances}
 use Rattle.methods.specs.declared.schnabel_eskow.Variant.{Variant}
 use Rattle.methods.proofs.Refused.{unmarked_never}
 
 pub record Going (r : Progress) : Type 0 where
-  pub phase2 : r.phase2 ≡ Never
-  pub refused : r.refused ≡ Never
+  pub phase2 : r.phase2 ≡ None
+  pub refused : r.refused ≡ None
 
 pub going : (r : Progress) → stopped r ≡ false → Going r
 going r h = record {

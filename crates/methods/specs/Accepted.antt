@@ -1,10 +1,9 @@
 -- What a factorization call accepts: finite symmetric matrices of 1 to 48 rows, with buffers of the lengths that go with them, and
 -- nothing else; with numbers, those that are as many and differ. Proved as `accepted` and `accepted_numbered` in
 -- proofs/AcceptedCalls.antt.
-use Rattle.std.specs.Prelude.{◌≡◌, true, List, ◌↔◌, ℕ, ◌*◌, ◌≤◌, length, Float}
+use Rattle.std.specs.Prelude.{◌≡◌, true, List, ◌↔◌, ℕ, ◌*◌, ◌≤◌, length, Float, Ok}
 use Rattle.arithmetic.specs.DoubleList.{AllDoubles}
 use Rattle.arithmetic.specs.Outcome.{complete}
-use Rattle.arithmetic.specs.declared.outcome.Outcome.TheVariants.{Complete}
 use Rattle.methods.specs.AcceptedMatrix.{AcceptedMatrix}
 use Rattle.matrix.specs.Checks.{Distinct}
 use Rattle.methods.specs.Calls.{number_checks, factor_checks}
@@ -25,7 +24,7 @@ abbrev pub AcceptedTheorem : Type 0
 AcceptedTheorem =
     (method n : ℕ) (a : List Float) (l work e p : ℕ)
     → AllDoubles a
-    → complete (factor_checks method n a Complete l work e p) ≡ true ↔ AcceptedOperands method n a l work e p
+    → complete (factor_checks method n a (Ok tt) l work e p) ≡ true ↔ AcceptedOperands method n a l work e p
 
 -- a number for each row, no two equal
 pub record AcceptedNumbers (n : ℕ) (numbers : List ℕ) : Type 0 where

@@ -1,14 +1,13 @@
 -- What a run of any method holds beside its lists, and each change of it.
-use Rattle.std.specs.Prelude.{Bool, true, cond, not, ◌||◌, ℕ, ◌+◌, Float}
+use Rattle.std.specs.Prelude.{Bool, true, cond, not, ◌||◌, ℕ, ◌+◌, Float, None}
 use Rattle.std.specs.Float.Ieee.{lt}
 use Rattle.arithmetic.specs.Double.{plus_zero}
 use Rattle.methods.specs.Marks.{mark, marked}
 use Rattle.methods.specs.declared.progress.Progress.{Progress}
 use Rattle.methods.specs.declared.progress.Stores.{Stores}
-use Rattle.methods.specs.declared.decomposition.Mark.TheVariants.{Never}
 
 abbrev pub begun : Progress
-begun = record { delta_prev = plus_zero; tied = Never; phase2 = Never; refused = Never; inexact = 0 }
+begun = record { delta_prev = plus_zero; tied = None; phase2 = None; refused = None; inexact = 0 }
 
 -- step j has searched its pivot: document 01's tied step
 abbrev pub searched : Bool → ℕ → Progress → Progress

@@ -1,13 +1,12 @@
 -- What a run hands back: document 01's result, with the fillings of refusal 9.
-use Rattle.std.specs.Prelude.{List, ℕ, ◌*◌, Float}
-use Rattle.arithmetic.specs.declared.outcome.Outcome.{Outcome}
-use Rattle.arithmetic.specs.declared.outcome.Outcome.TheVariants.{Complete, StoredNotFinite}
+use Rattle.std.specs.Prelude.{List, ℕ, ◌*◌, Float, None, Some, Ok, Err}
+use Rattle.arithmetic.specs.Outcome.{Outcome}
+use Rattle.arithmetic.specs.declared.refusal.Refusal.TheVariants.{StoredNotFinite}
 use Rattle.matrix.specs.Matrix.{zeros}
 use Rattle.matrix.specs.Table.{table}
 use Rattle.methods.specs.declared.decomposition.Decomposition.{Decomposition}
 use Rattle.methods.specs.declared.progress.Progress.{Progress}
-use Rattle.methods.specs.declared.decomposition.Mark.{Mark}
-use Rattle.methods.specs.declared.decomposition.Mark.TheVariants.{Never, Step}
+use Rattle.methods.specs.Marks.{Mark}
 
 pub record Result : Type 0 where
   pub decomposition : Decomposition
@@ -20,22 +19,22 @@ abbrev pub identity : ℕ → List ℕ
 identity n = table n (λ i. i)
 
 abbrev pub outcome_of : Mark → Outcome
-outcome_of Never = Complete
-outcome_of (Step j) = StoredNotFinite j
+outcome_of None = Ok tt
+outcome_of (Some j) = Err (StoredNotFinite j)
 
 -- a complete run's values, or refusal 9's fillings: +0.0 over L and e, 0 to n - 1 in p
 abbrev pub filled : Mark → ℕ → List Float → List Float
-filled Never size values = values
-filled (Step j) size values = zeros size
+filled None size values = values
+filled (Some j) size values = zeros size
 
 abbrev pub filled_order : Mark → ℕ → List ℕ → List ℕ
-filled_order Never n p = p
-filled_order (Step j) n p = identity n
+filled_order None n p = p
+filled_order (Some j) n p = identity n
 
 -- .. and 0 for the count of inexact roots
 abbrev pub filled_count : Mark → ℕ → ℕ
-filled_count Never inexact = inexact
-filled_count (Step j) inexact = 0
+filled_count None inexact = inexact
+filled_count (Some j) inexact = 0
 
 -- what is reported of a run's progress
 abbrev pub reported : Progress → Decomposition

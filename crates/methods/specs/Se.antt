@@ -1,6 +1,6 @@
 -- SE90 and SE99, statement by statement beside src/se90.rs and src/se99.rs, SE90 with document 02's N6. They share all but the tests of
 -- phase one, the least amount and the last amount.
-use Rattle.std.specs.Prelude.{◌≡◌, List, Bool, true, false, cond, ◌&&◌, ◌||◌, ℕ, ◌+◌, ◌-◌, get_or, set, eqb, Float}
+use Rattle.std.specs.Prelude.{◌≡◌, List, Bool, true, false, cond, ◌&&◌, ◌||◌, ℕ, ◌+◌, ◌-◌, get_or, set, eqb, Float, None, Some}
 use Rattle.std.specs.Float.{nan, inf}
 use Rattle.std.specs.Float.Ieee.{lt, le, neg}
 use Rattle.std.specs.Float.Ieee.Scale.{finite}
@@ -12,7 +12,7 @@ use Rattle.matrix.specs.Matrix.{at, put, zeros}
 use Rattle.matrix.specs.Table.{table}
 use Rattle.matrix.specs.Eigenvalues.{eigenvalues_of}
 use Rattle.matrix.specs.declared.utils.Eigen.{Eigen}
-use Rattle.methods.specs.Marks.{marked}
+use Rattle.methods.specs.Marks.{marked, Mark}
 use Rattle.methods.specs.Progress.{begun, searched, left, stored, counted, one_if, kept, stopped}
 use Rattle.methods.specs.Statements.{diagonal_max, diagonal, pick, pivot_matrix, pivot_list, eliminate, lower_triangle, reorder, block_finite}
 use Rattle.methods.specs.Result.{Result, identity, hand_back}
@@ -23,8 +23,6 @@ use Rattle.methods.specs.declared.schnabel_eskow.Variant.{Variant}
 use Rattle.methods.specs.declared.schnabel_eskow.Variant.TheVariants.{Se90, Se99}
 use Rattle.methods.specs.declared.schnabel_eskow.Last.{Last}
 use Rattle.methods.specs.declared.schnabel_eskow.Last.TheVariants.{One, Pair}
-use Rattle.methods.specs.declared.decomposition.Mark.{Mark}
-use Rattle.methods.specs.declared.decomposition.Mark.TheVariants.{Never, Step}
 
 pub record Run : Type 0 where
   pub l : List Float
@@ -317,8 +315,8 @@ phase_two_from v t numbers gamma n k s =
 
 unfoldable pub phase_two_after : Variant → Tolerances → List ℕ → Float → ℕ → Mark → Run → Run
 unfolding phase_two_from
-phase_two_after v t numbers gamma n Never s = s
-phase_two_after v t numbers gamma n (Step k) s = phase_two_from v t numbers gamma n k s
+phase_two_after v t numbers gamma n None s = s
+phase_two_after v t numbers gamma n (Some k) s = phase_two_from v t numbers gamma n k s
 
 abbrev pub phase_two : Variant → Tolerances → List ℕ → Float → ℕ → Run → Run
 phase_two v t numbers gamma n s = phase_two_after v t numbers gamma n s.progress.phase2 s

@@ -11,7 +11,7 @@ pub enum Method {
 }
 
 impl Method {
-    // By document 01's number.
+    // By document 01's number: what passed check 2 is one of three, so this is no TryFrom, which would refuse a second time.
     pub fn of(method: usize) -> Method
         ensures { result ≡ method_of method }
     {

@@ -1,19 +1,21 @@
 // What a run of any method holds beside its lists. Its changes stand here alone, so that the runs need not name its fields.
 ghost use Rattle.std.specs.Prelude.{◌≡◌, ◌+◌, ◌≤◌};
 ghost use Rattle.methods.specs.Progress.{begun, searched, left, stored, counted, one_if, kept, stopped};
+ghost use Rattle.methods.specs.Result.{reported};
 
-use crate::decomposition::Mark;
+use crate::decomposition::Decomposition;
+use arithmetic::refusal::Refusal;
 
 #[derive(Clone, Copy)]
 pub struct Progress {
     // The last amount above zero that phase two added.
     pub delta_prev: f64,
     // The first step whose pivot search was tied.
-    pub tied: Mark,
+    pub tied: Option<usize>,
     // The step at which SE90 or SE99 left phase one.
-    pub phase2: Mark,
+    pub phase2: Option<usize>,
     // The first step that stored a value that isn't finite.
-    pub refused: Mark,
+    pub refused: Option<usize>,
     // How many of the diagonal roots taken so far are inexact.
     pub inexact: usize,
 }
@@ -25,10 +27,11 @@ pub struct Stores {
     pub inexact: usize,
 }
 
+#[tactic(auto, unfolding(crate::specs::Progress::one_if))]
 pub fn one_if(flag: bool) -> usize
     ensures { result ≡ one_if flag }
 {
-    if flag { 1 } else { 0 }
+    usize::from(flag)
 }
 
 impl Progress {
@@ -37,9 +40,9 @@ impl Progress {
     {
         Progress {
             delta_prev: 0.0,
-            tied: Mark::Never,
-            phase2: Mark::Never,
-            refused: Mark::Never,
+            tied: None,
+            phase2: None,
+            refused: None,
             inexact: 0,
         }
     }
@@ -48,15 +51,9 @@ impl Progress {
     pub fn searched(self, tie: bool, j: usize) -> Progress
         ensures { result ≡ searched tie j self }
     {
-        let tied = self.tied;
-        let phase2 = self.phase2;
-        let refused = self.refused;
         Progress {
-            delta_prev: self.delta_prev,
-            tied: tied.mark(tie, j),
-            phase2,
-            refused,
-            inexact: self.inexact,
+            tied: self.tied.or(tie.then_some(j)),
+            ..self
         }
     }
 
@@ -64,15 +61,9 @@ impl Progress {
     pub fn left(self, j: usize) -> Progress
         ensures { result ≡ left j self }
     {
-        let tied = self.tied;
-        let phase2 = self.phase2;
-        let refused = self.refused;
         Progress {
-            delta_prev: self.delta_prev,
-            tied,
-            phase2: phase2.mark(true, j),
-            refused,
-            inexact: self.inexact,
+            phase2: self.phase2.or(Some(j)),
+            ..self
         }
     }
 
@@ -80,15 +71,9 @@ impl Progress {
     pub fn stored(self, ok: bool, j: usize) -> Progress
         ensures { result ≡ stored ok j self }
     {
-        let tied = self.tied;
-        let phase2 = self.phase2;
-        let refused = self.refused;
         Progress {
-            delta_prev: self.delta_prev,
-            tied,
-            phase2,
-            refused: refused.mark(!ok, j),
-            inexact: self.inexact,
+            refused: self.refused.or((!ok).then_some(j)),
+            ..self
         }
     }
 
@@ -97,31 +82,20 @@ impl Progress {
         requires { self.inexact + stores.inexact ≤ 48 }
         ensures { result ≡ stored stores.ok j (counted stores.inexact self) }
     {
-        let tied = self.tied;
-        let phase2 = self.phase2;
-        let refused = self.refused;
         Progress {
-            delta_prev: self.delta_prev,
-            tied,
-            phase2,
-            refused: refused.mark(!stores.ok, j),
             inexact: self.inexact + stores.inexact,
+            ..self
         }
+        .stored(stores.ok, j)
     }
 
     // Phase two has added the amount e.
     pub fn kept(self, e: f64) -> Progress
         ensures { result ≡ kept e self }
     {
-        let tied = self.tied;
-        let phase2 = self.phase2;
-        let refused = self.refused;
         Progress {
             delta_prev: if e > 0.0 { e } else { self.delta_prev },
-            tied,
-            phase2,
-            refused,
-            inexact: self.inexact,
+            ..self
         }
     }
 
@@ -129,11 +103,22 @@ impl Progress {
     pub fn stopped(self) -> bool
         ensures { result ≡ stopped self }
     {
-        let phase2 = self.phase2;
-        let refused = self.refused;
-        if phase2.marked() {
-            return true;
+        self.phase2.is_some() || self.refused.is_some()
+    }
+
+    // What is reported of it: a refused run counts no roots.
+    pub fn reported(self) -> Decomposition
+        ensures { result ≡ reported self }
+    {
+        let (outcome, inexact) = match self.refused {
+            None => (Ok(()), self.inexact),
+            Some(step) => (Err(Refusal::StoredNotFinite { step }), 0),
+        };
+        Decomposition {
+            outcome,
+            tied: self.tied,
+            phase2: self.phase2,
+            inexact,
         }
-        refused.marked()
     }
 }

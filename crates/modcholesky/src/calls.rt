@@ -5,38 +5,29 @@ ghost use Rattle.methods.specs.Calls.{call, unstarted, answered, check_method, n
 ghost use Rattle.methods.specs.Factor.{factor, tolerances};
 
 use crate::{gmw81, se};
-use arithmetic::outcome::Outcome;
+use arithmetic::refusal::{Refusal, refuse};
 use matrix::checks;
 use matrix::entries::clear;
-use methods::decomposition::{Decomposition, Mark};
+use methods::decomposition::Decomposition;
 use methods::method::Method;
 use methods::progress::Progress;
 use statements::count_up;
 
 // 2
-pub fn check_method(method: usize) -> Outcome
+pub fn check_method(method: usize) -> Result<(), Refusal>
     ensures { result ≡ check_method method }
 {
-    if method == 0 {
-        return Outcome::UnknownMethod;
-    }
-    if 3 < method {
-        return Outcome::UnknownMethod;
-    }
-    Outcome::Complete
+    refuse(method == 0 || 3 < method, Refusal::UnknownMethod)
 }
 
 // 12 and 13. Above 48 rows a call is refused before these, so no long list is searched.
-fn number_checks(n: usize, numbers: &[u32]) -> Outcome
+fn number_checks(n: usize, numbers: &[u32]) -> Result<(), Refusal>
     ensures { n ≤ 48 → result ≡ number_checks n numbers.now }
 {
     if 48 < n {
-        return Outcome::Complete;
+        return Ok(());
     }
-    let outcome = checks::check_numbers(n, numbers.len());
-    if !outcome.complete() {
-        return outcome;
-    }
+    checks::check_numbers(n, numbers.len())?;
     checks::check_distinct(numbers)
 }
 
@@ -44,23 +35,23 @@ fn number_checks(n: usize, numbers: &[u32]) -> Outcome
 pub fn operand_chain(
     method: usize,
     n: usize,
-    matrix: Outcome,
-    numbering: Outcome,
-    l: Outcome,
-    work: Outcome,
-    e: Outcome,
-    p: Outcome,
-) -> Outcome
+    matrix: Result<(), Refusal>,
+    numbering: Result<(), Refusal>,
+    l: Result<(), Refusal>,
+    work: Result<(), Refusal>,
+    e: Result<(), Refusal>,
+    p: Result<(), Refusal>,
+) -> Result<(), Refusal>
     ensures { result ≡ operand_chain method n matrix numbering l work e p }
 {
-    check_method(method)
-        .then(checks::check_size(n))
-        .then(matrix)
-        .then(numbering)
-        .then(l)
-        .then(work)
-        .then(e)
-        .then(p)
+    check_method(method)?;
+    checks::check_size(n)?;
+    matrix?;
+    numbering?;
+    l?;
+    work?;
+    e?;
+    p
 }
 
 // .. on the lengths of the matrix and the buffers.
@@ -68,12 +59,12 @@ fn operand_checks(
     method: usize,
     n: usize,
     a: usize,
-    numbering: Outcome,
+    numbering: Result<(), Refusal>,
     l: usize,
     work: usize,
     e: usize,
     p: usize,
-) -> Outcome
+) -> Result<(), Refusal>
     ensures { result ≡ operand_checks method n a numbering l work e p }
 {
     operand_chain(
@@ -93,30 +84,27 @@ fn factor_checks(
     method: usize,
     a: &[f64],
     n: usize,
-    numbering: Outcome,
+    numbering: Result<(), Refusal>,
     l: usize,
     work: usize,
     e: usize,
     p: usize,
-) -> Outcome
+) -> Result<(), Refusal>
     ensures { result ≡ factor_checks method n a.now numbering l work e p }
 {
-    let operands = operand_checks(method, n, a.len(), numbering, l, work, e, p);
-    let entries = operands.then(checks::check_finite(n, a));
-    if !entries.complete() {
-        return entries;
-    }
+    operand_checks(method, n, a.len(), numbering, l, work, e, p)?;
+    checks::check_finite(n, a)?;
     checks::check_symmetric(n, a)
 }
 
 // Refused before the first step.
-pub fn untouched(outcome: Outcome) -> Decomposition
+pub fn untouched(outcome: Result<(), Refusal>) -> Decomposition
     ensures { result ≡ unstarted outcome }
 {
     Decomposition {
         outcome,
-        tied: Mark::Never,
-        phase2: Mark::Never,
+        tied: None,
+        phase2: None,
         inexact: 0,
     }
 }
@@ -133,21 +121,13 @@ pub fn hand_back(
     requires { (length l.old ≡ n * n) × (length work.old ≡ n * n) × (length e.old ≡ n) × (length p.old ≡ n) }
     ensures { call result l.new work.new e.new p.new ≡ answered n (hand_back n r l.old e.old p.old) }
 {
-    let tied = r.tied;
-    let phase2 = r.phase2;
-    let refused = r.refused;
     clear(work);
-    if refused.marked() {
+    if r.refused.is_some() {
         clear(l);
         clear(e);
         count_up(p);
     }
-    Decomposition {
-        outcome: refused.outcome_of(),
-        tied,
-        phase2,
-        inexact: refused.filled_count(r.inexact),
-    }
+    r.reported()
 }
 
 // A run on operands that passed the checks.
@@ -175,7 +155,7 @@ fn factor_with(
     method: usize,
     a: &[f64],
     n: usize,
-    numbering: Outcome,
+    numbering: Result<(), Refusal>,
     numbers: &[u32],
     l: &mut [f64],
     work: &mut [f64],
@@ -184,7 +164,7 @@ fn factor_with(
 ) -> Decomposition
     ensures { call result l.new work.new e.new p.new ≡ call_with numbering numbers.now method n a.now l.old work.old e.old p.old }
 {
-    let outcome = factor_checks(
+    let checks = factor_checks(
         method,
         a,
         n,
@@ -194,10 +174,10 @@ fn factor_with(
         e.len(),
         p.len(),
     );
-    if !outcome.complete() {
-        return untouched(outcome);
+    match checks {
+        Ok(()) => run(Method::of(method), a, n, numbers, l, work, e, p),
+        Err(refusal) => untouched(Err(refusal)),
     }
-    run(Method::of(method), a, n, numbers, l, work, e, p)
 }
 
 // The factorization call, by document 01's number of the method.
@@ -212,8 +192,7 @@ pub fn factor(
 ) -> Decomposition
     ensures { call result l.new work.new e.new p.new ≡ factor_call method n a.now l.old work.old e.old p.old }
 {
-    let none: [u32; 1] = [0];
-    factor_with(method, a, n, Outcome::Complete, &none[0..0], l, work, e, p)
+    factor_with(method, a, n, Ok(()), &[], l, work, e, p)
 }
 
 // .. with a number for each contract, by which ties are settled.

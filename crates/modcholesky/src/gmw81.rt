@@ -6,6 +6,7 @@ ghost use Rattle.methods.specs.Calls.{call, answered, factor_call, Operands};
 ghost use Rattle.methods.specs.Gmw81.{state, stepped, mod_cholesky_gmw81};
 
 use crate::calls;
+use gmw81_steps::Bounds;
 use methods::decomposition::Decomposition;
 use methods::progress::Progress;
 
@@ -29,10 +30,12 @@ fn stepped(
 {
     let diag_max = statements::diagonal_max(a, n);
     let off_diag_max = gmw81_steps::off_diagonal_max(a, n);
-    let delta = gmw81_steps::delta_of(diag_max, off_diag_max);
-    let beta = gmw81_steps::beta_of(n, diag_max, off_diag_max);
+    let bounds = Bounds {
+        delta: gmw81_steps::delta_of(diag_max, off_diag_max),
+        beta: gmw81_steps::beta_of(n, diag_max, off_diag_max),
+    };
     let started = gmw81_steps::begin(a, n, l, c, d, e, p);
-    gmw81_steps::steps(numbers, l, c, d, e, p, diag, n, delta, beta, started)
+    gmw81_steps::steps(numbers, l, c, d, e, p, diag, n, bounds, started)
 }
 
 // A whole run, with its fillings where it is refused; d and diag are scratch.

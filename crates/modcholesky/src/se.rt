@@ -11,7 +11,7 @@ use crate::se90::Se90;
 use crate::se99::Se99;
 use methods::decomposition::Decomposition;
 use methods::progress::Progress;
-use methods::schnabel_eskow::{Tolerances, Variant};
+use methods::schnabel_eskow::{Parameters, Tolerances, Variant};
 
 // Both phases; g and diag are scratch.
 fn phases(
@@ -31,10 +31,15 @@ fn phases(
     requires e_len { (length e.old ≡ n) × (length g.old ≡ n) × (length diag.old ≡ n) × (length p.old ≡ n) × Symmetric n a.now }
     ensures { lowered n (state l.new e.new g.new p.new result) ≡ lowered n (run v t numbers.now n a.now) }
 {
-    let gamma = statements::diagonal_max(a, n);
+    let params = Parameters {
+        variant: v,
+        tolerances: t,
+        gamma: statements::diagonal_max(a, n),
+        numbers,
+    };
     let started = phase_one::begin(a, n, l, e, g, p);
-    let first = phase_one::phase_one(v, t, numbers, gamma, l, p, diag, n, started);
-    phase_two::phase_two(v, t, numbers, gamma, l, e, g, p, n, first)
+    let first = phase_one::phase_one(&params, l, p, diag, n, started);
+    phase_two::phase_two(&params, l, e, g, p, n, first)
 }
 
 // A whole run, with its fillings where it is refused.

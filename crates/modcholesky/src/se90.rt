@@ -8,6 +8,7 @@ use crate::se99::Se99;
 use methods::decomposition::Decomposition;
 use methods::schnabel_eskow::Tolerances;
 
+// The Rust's two types have the constants twice.
 #[derive(Clone, Copy)]
 pub struct Se90 {}
 

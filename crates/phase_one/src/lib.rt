@@ -1,8 +1,7 @@
 // What SE90 and SE99 share of phase one.
 #![tactic(auto)]
 
-ghost use Rattle.std.specs.Prelude.{◌≡◌, List, cond, ℕ, ◌+◌, ◌*◌, ◌≤◌, ◌<◌, length, Float};
-ghost use Rattle.std.specs.Float.Ieee.{lt};
+ghost use Rattle.std.specs.Prelude.{◌≡◌, List, ℕ, ◌+◌, ◌*◌, ◌≤◌, ◌<◌, length, Float};
 ghost use Rattle.matrix.specs.Matrix.{Square};
 ghost use Rattle.methods.specs.Statements.{pivot_matrix, pivot_list};
 ghost use Rattle.methods.specs.Elimination.{mirrored};
@@ -11,8 +10,9 @@ ghost use Rattle.methods.specs.Se.{state, start, fold_next, tmp_of, aii_max, aii
 use arithmetic::double::square;
 use matrix::entries::{clear, get};
 use methods::progress::Progress;
-use methods::schnabel_eskow::{Tolerances, Variant};
+use methods::schnabel_eskow::{Parameters, Variant};
 
+#[tactic(auto, unfolding(methods::specs::Se::start))]
 pub fn begin(
     a: &[f64],
     n: usize,
@@ -26,7 +26,7 @@ pub fn begin(
     requires e_len { (length e.old ≡ n) × (length g.old ≡ n) × (length p.old ≡ n) }
     ensures { state l.new e.new g.new p.new result ≡ start n a.now }
 {
-    statements::copy(a, l);
+    l.copy_from_slice(a);
     clear(e);
     clear(g);
     statements::count_up(p);
@@ -35,6 +35,7 @@ pub fn begin(
 
 // ---- the tests
 
+#[tactic(auto, unfolding(methods::specs::Se::fold_next))]
 fn fold_next(l: &[f64], n: usize, j: usize, i: usize, acc: f64) -> f64
     requires square { Square n l.now }
     requires j_lt_n { (j < n) × (i < n) }
@@ -49,12 +50,7 @@ fn tmp_of(l: &[f64], n: usize, j: usize) -> f64
     requires j_lt_n { j < n }
     ensures { result ≡ tmp_of n j l.now }
 {
-    let mut acc = 1.0 / 0.0;
-    let a = j + 1;
-    for i in a..n {
-        acc = fold_next(l, n, j, i, acc);
-    }
-    acc
+    (j + 1..n).fold(f64::INFINITY, |acc, i| fold_next(l, n, j, i, acc))
 }
 
 fn aii_max(l: &[f64], n: usize, j: usize) -> f64
@@ -62,17 +58,9 @@ fn aii_max(l: &[f64], n: usize, j: usize) -> f64
     requires j_lt_n { j < n }
     ensures { result ≡ aii_max n j l.now }
 {
-    let mut acc = -1.0 / 0.0;
-    for i in j..n {
-        acc = larger(acc, get(l, n, i, i));
-    }
-    acc
-}
-
-fn larger(acc: f64, x: f64) -> f64
-    ensures { result ≡ cond (lt acc x) x acc }
-{
-    if x > acc { x } else { acc }
+    (j..n)
+        .map(|i| get(l, n, i, i))
+        .fold(f64::NEG_INFINITY, |acc, x| if x > acc { x } else { acc })
 }
 
 fn aii_min(l: &[f64], n: usize, j: usize) -> f64
@@ -80,51 +68,39 @@ fn aii_min(l: &[f64], n: usize, j: usize) -> f64
     requires j_lt_n { j < n }
     ensures { result ≡ aii_min n j l.now }
 {
-    let mut acc = 1.0 / 0.0;
-    for i in j..n {
-        acc = smaller(acc, get(l, n, i, i));
-    }
-    acc
-}
-
-fn smaller(acc: f64, x: f64) -> f64
-    ensures { result ≡ cond (lt x acc) x acc }
-{
-    if x < acc { x } else { acc }
+    (j..n)
+        .map(|i| get(l, n, i, i))
+        .fold(f64::INFINITY, |acc, x| if x < acc { x } else { acc })
 }
 
 // SE99's test before the search.
-fn leaves_before(v: Variant, t: Tolerances, gamma: f64, l: &[f64], n: usize, j: usize) -> bool
+#[tactic(auto, unfolding(methods::specs::Se::leaves_before))]
+fn leaves_before(params: &Parameters, l: &[f64], n: usize, j: usize) -> bool
     requires square { Square n l.now }
     requires j_lt_n { j < n }
-    ensures { result ≡ leaves_before v t gamma n j l.now }
+    ensures { result ≡ leaves_before params.now.variant params.now.tolerances params.now.gamma n j l.now }
 {
-    match v {
+    let t = params.tolerances;
+    match params.variant {
         Variant::Se90 => false,
         Variant::Se99 => {
             let max = aii_max(l, n, j);
-            if max < t.tau_bar * gamma {
-                return true;
-            }
-            aii_min(l, n, j) < -t.mu * max
+            max < t.tau_bar * params.gamma || aii_min(l, n, j) < -t.mu * max
         }
     }
 }
 
 // The test after search and swap: SE90 also ends on a pivot that is zero or negative.
-fn leaves_after(v: Variant, t: Tolerances, gamma: f64, l: &[f64], n: usize, j: usize) -> bool
+#[tactic(auto, unfolding(methods::specs::Se::leaves_after))]
+fn leaves_after(params: &Parameters, l: &[f64], n: usize, j: usize) -> bool
     requires square { Square n l.now }
     requires j_lt_n { j < n }
-    ensures { result ≡ leaves_after v t gamma n j l.now }
+    ensures { result ≡ leaves_after params.now.variant params.now.tolerances params.now.gamma n j l.now }
 {
-    match v {
-        Variant::Se90 => {
-            if get(l, n, j, j) <= 0.0 {
-                return true;
-            }
-            tmp_of(l, n, j) < t.tau * gamma
-        }
-        Variant::Se99 => tmp_of(l, n, j) < -t.mu * gamma,
+    let t = params.tolerances;
+    match params.variant {
+        Variant::Se90 => get(l, n, j, j) <= 0.0 || tmp_of(l, n, j) < t.tau * params.gamma,
+        Variant::Se99 => tmp_of(l, n, j) < -t.mu * params.gamma,
     }
 }
 
@@ -137,13 +113,11 @@ pub fn pivot(l: &mut [f64], p: &mut [usize], n: usize, j: usize, max_idx: usize)
     ensures { (mirrored n l.new ≡ pivot_matrix n j max_idx (mirrored n l.old)) × (p.new ≡ pivot_list 0 j max_idx p.old) }
 {
     statements::pivot_symmetric(l, n, j, max_idx);
-    statements::pivot_order(p, j, max_idx);
+    statements::pivot_list(p, j, max_idx);
 }
 
 fn step_at(
-    v: Variant,
-    t: Tolerances,
-    gamma: f64,
+    params: &Parameters,
     l: &mut [f64],
     p: &mut [usize],
     n: usize,
@@ -154,17 +128,18 @@ fn step_at(
 ) -> Progress
     requires square { Square n l.old }
     requires p_len { (length p.old ≡ n) × (j + max_idx < n) × (r.inexact ≤ j) }
-    ensures { (e g : List Float) → state (mirrored n l.new) e g p.new result ≡ step_at v t gamma n j max_idx tie (state (mirrored n l.old) e g p.old r) }
+    ensures { (e g : List Float) → state (mirrored n l.new) e g p.new result ≡ step_at params.now.variant params.now.tolerances params.now.gamma n j max_idx tie (state (mirrored n l.old) e g p.old r) }
 {
     pivot(l, p, n, j, max_idx);
     let pivoted = r.searched(tie, j);
-    if leaves_after(v, t, gamma, l, n, j) {
+    if leaves_after(params, l, n, j) {
         return pivoted.left(j);
     }
     factorize(l, n, j, pivoted)
 }
 
 // The jth iteration of the factorization: a step counts one root at most.
+#[tactic(auto, unfolding(methods::specs::Se::factorize))]
 fn factorize(l: &mut [f64], n: usize, j: usize, r: Progress) -> Progress
     requires square { Square n l.old }
     requires j_lt_n { (j < n) × (r.inexact ≤ j) }
@@ -175,10 +150,7 @@ fn factorize(l: &mut [f64], n: usize, j: usize, r: Progress) -> Progress
 }
 
 fn phase_one_step(
-    v: Variant,
-    t: Tolerances,
-    numbers: &[u32],
-    gamma: f64,
+    params: &Parameters,
     l: &mut [f64],
     p: &mut [usize],
     diag: &mut [f64],
@@ -188,20 +160,17 @@ fn phase_one_step(
 ) -> Progress
     requires square { Square n l.old }
     requires p_len { (length p.old ≡ n) × (length diag.old ≡ n) × (j < n) × (r.inexact ≤ j) }
-    ensures { (e g : List Float) → state (mirrored n l.new) e g p.new result ≡ phase_one_step v t numbers.now gamma n j (state (mirrored n l.old) e g p.old r) }
+    ensures { (e g : List Float) → state (mirrored n l.new) e g p.new result ≡ phase_one_step params.now.variant params.now.tolerances params.now.numbers.now params.now.gamma n j (state (mirrored n l.old) e g p.old r) }
 {
-    if leaves_before(v, t, gamma, l, n, j) {
+    if leaves_before(params, l, n, j) {
         return r.left(j);
     }
-    let f = statements::search_diagonal(numbers, p, false, l, n, j, diag);
-    step_at(v, t, gamma, l, p, n, j, f.index, f.tied, r)
+    let f = statements::search_diagonal(params.numbers, p, false, l, n, j, diag);
+    step_at(params, l, p, n, j, f.index, f.tied, r)
 }
 
 pub fn phase_one(
-    v: Variant,
-    t: Tolerances,
-    numbers: &[u32],
-    gamma: f64,
+    params: &Parameters,
     l: &mut [f64],
     p: &mut [usize],
     diag: &mut [f64],
@@ -210,14 +179,14 @@ pub fn phase_one(
 ) -> Progress
     requires square { Square n l.old }
     requires p_len { (length p.old ≡ n) × (length diag.old ≡ n) × (r.inexact ≡ 0) }
-    ensures { (e g : List Float) → state (mirrored n l.new) e g p.new result ≡ phase_one v t numbers.now gamma n (state (mirrored n l.old) e g p.old r) }
+    ensures { (e g : List Float) → state (mirrored n l.new) e g p.new result ≡ phase_one params.now.variant params.now.tolerances params.now.numbers.now params.now.gamma n (state (mirrored n l.old) e g p.old r) }
 {
     let mut q = r;
     for j in 0..n {
         if q.stopped() {
             return q;
         }
-        q = phase_one_step(v, t, numbers, gamma, l, p, diag, n, j, q);
+        q = phase_one_step(params, l, p, diag, n, j, q);
     }
     q
 }

@@ -17,7 +17,7 @@ use Rattle.methods.specs.Calls.{check_method}
 use Rattle.encoding.specs.Bytes.{doubles}
 use Rattle.encoding.specs.Checks.{check_entries}
 use Rattle.answer_record.specs.AnswerRecord.{longest_answer}
-use Rattle.record.specs.MatrixRecord.{request_number_checks, request_checks}
+use Rattle.record.specs.MatrixRecord.{numbered, request_number_checks, request_checks}
 use Rattle.record.specs.Record.{OwnContracts}
 use Rattle.record.specs.declared.read.Request.{Request}
 use Rattle.encoding.proofs.Checked.{entries-length}
@@ -40,21 +40,18 @@ module _ (r : Request) (room : ℕ) (contracts entries : List ℕ) where
 
   -- .. and 7
   pub request-accepted : Accepted (request_checks r room contracts entries) → Sized r entries × Accepted (check_finite r.size (doubles entries))
-  unfolding request_checks
   request-accepted h = let f = both_accepted _ _ h in (sized (both_accepted _ _ (both_accepted _ _ f.0).0).0, f.1)
 
   -- .. and 5
   pub room_accepted : Accepted (request_checks r room contracts entries) → room ≡ longest_answer
-  unfolding request_checks
   room_accepted h = buffer_accepted longest_answer room (both_accepted _ _ (both_accepted _ _ h).0).1
 
   -- .. 12 and 13: where there is a field 04, it has a number for each contract
   numbering_accepted : Accepted (request_checks r room contracts entries) → Accepted (request_number_checks r contracts)
-  unfolding request_checks
   numbering_accepted h = (both_accepted _ _ (both_accepted _ _ (both_accepted _ _ h).0).0).1
 
   pub contracts-fit : Accepted (request_checks r room contracts entries) → OwnContracts r contracts → (length contracts ≡ 4 * (length contracts / 4)) × (length contracts / 4 ≤ 48)
-  contracts-fit h own = elim (is r.numbered) [
+  contracts-fit h own = elim (is (numbered r)) [
     | holds e ↦
         let N : Accepted (request_number_checks r contracts) = numbering_accepted h in
         let l = (number-checks-accepted r.size contracts (rw e at N)).0 in

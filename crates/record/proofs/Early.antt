@@ -8,12 +8,14 @@ use native.Mathlib.Omega.{arith}
 use borrow.Author.Tests.{ltb-true}
 use lib.ListN.{length}
 use lib.Dec.{eqb, leb, ltb}
-use Rattle.arithmetic.specs.Outcome.{number, place, refuse, ◌then◌}
+use Rattle.std.specs.Prelude.{Err}
+use Rattle.arithmetic.specs.Outcome.{Outcome, number_of, number, place_of, place, refuse, ◌then◌}
+use Rattle.arithmetic.specs.declared.refusal.Refusal.{Refusal}
 use Rattle.arithmetic.proofs.OrderLaws.{and_1}
 use Rattle.arithmetic.proofs.OutcomeLaws.{complete-is}
 use Rattle.arithmetic.proofs.Cases.{is, holds, fails}
-use Rattle.arithmetic.specs.declared.outcome.Outcome.{Outcome}
-use Rattle.arithmetic.specs.declared.outcome.Outcome.TheVariants.{Complete, MalformedRecord, UnknownMethod, SizeOutOfRange, MatrixLength, BufferLength, NotFinite, Unsymmetric, NumbersLength, NumberRepeated}
+use Rattle.std.specs.Prelude.{Ok}
+use Rattle.arithmetic.specs.declared.refusal.Refusal.TheVariants.{MalformedRecord, UnknownMethod, SizeOutOfRange, MatrixLength, BufferLength, NotFinite, Unsymmetric, NumbersLength, NumberRepeated}
 use Rattle.matrix.specs.Checks.{check_size, check_buffer, check_finite, check_symmetric, first_not_finite, first_unsymmetric, first_repeated}
 use Rattle.matrix.proofs.CheckLaws.{Accepted, both_accepted, then_keeps, refuse-keeps}
 use Rattle.methods.specs.Calls.{check_method}
@@ -22,7 +24,7 @@ use Rattle.encoding.proofs.ContractNumbers.{numbers-length, number-bytes_accepte
 use Rattle.answer_record.specs.AnswerRecord.{longest_answer}
 use Rattle.record.specs.Cursor.{walk}
 use Rattle.encoding.specs.Checks.{check_entries}
-use Rattle.record.specs.MatrixRecord.{request, contracts_of, entries_of, matrix_of, longest_record, check_walk, exact, check_record, request_number_checks, request_checks, byte_checks, record_checks}
+use Rattle.record.specs.MatrixRecord.{request, numbered, contracts_of, entries_of, matrix_of, longest_record, check_walk, exact, check_record, request_number_checks, request_checks, byte_checks, record_checks}
 use Rattle.answer_record.specs.Writing.{PlaceFits}
 use Rattle.record.specs.declared.cursor.Cursor.{Cursor}
 use Rattle.record.specs.declared.cursor.Stage.{Stage}
@@ -49,13 +51,13 @@ weaker {o} e = record { number_is = and_1 (before_run (number o)) _ e.number_is;
 abbrev zeros : (0 < 256) × (0 < 256)
 zeros = (omega arith, omega arith)
 
-complete-early : Early of_content Complete
+complete-early : Early of_content (Ok tt)
 complete-early = record { number_is = refl; placed = zeros }
 
-malformed-early : Early before_run MalformedRecord
+malformed-early : Early before_run (Err MalformedRecord)
 malformed-early = record { number_is = refl; placed = zeros }
 
-content-refusal : (bad : Bool) (refusal : Outcome) → of_content (number refusal) ≡ true → (bad ≡ true → PlaceFits (place refusal)) → Early of_content (refuse bad refusal)
+content-refusal : (bad : Bool) (refusal : Refusal) → of_content (number_of refusal) ≡ true → (bad ≡ true → PlaceFits (place_of refusal)) → Early of_content (refuse bad refusal)
 content-refusal bad refusal h p = refuse-keeps (Early of_content) bad refusal complete-early (λ e. record { number_is = h; placed = p e })
 
 cell_fits : (n k : ℕ) → 0 < n → n ≤ 48 → k < n * n → (k / n < 256) × (k % n < 256)
@@ -71,7 +73,6 @@ walk-early (PastEnd field) h = record { number_is = refl; placed = (omega (arith
 walk-early (WrongTag field found) h = record { number_is = refl; placed = (omega (arith, h), omega arith) }
 
 fields_early : (len : ℕ) (c : Cursor) → stopped_at c.stage ≤ 3 → Early before_run (check_record len c)
-unfolding check_record
 fields_early len c h =
     let malformed : (bad : Bool) → Early before_run (refuse bad MalformedRecord) = λ bad. refuse-keeps (Early before_run) bad MalformedRecord (weaker complete-early) (λ _. malformed-early) in
     then_keeps (Early before_run) _ _ (then_keeps (Early before_run) _ _ (malformed (ltb longest_record len)) (λ _. walk-early c.stage h)) (λ _. malformed (not (exact c len)))
@@ -101,7 +102,7 @@ module _ (r : Request) (room : ℕ) (contracts entries : List ℕ) where
   lent-early = content-refusal (not (eqb room longest_answer)) BufferLength refl (λ _. zeros)
 
   numbers-early : Sized r entries → Early of_content (request_number_checks r contracts)
-  numbers-early l = elim (is r.numbered) [
+  numbers-early l = elim (is (numbered r)) [
     | holds e ↦
         let n = r.size in
         let len = length contracts in
@@ -113,30 +114,25 @@ module _ (r : Request) (room : ℕ) (contracts entries : List ℕ) where
   ]
 
   request-early : Early of_content (request_checks r room contracts entries)
-  unfolding request_checks
   request-early =
       then_keeps (Early of_content) _ _ (then_keeps (Early of_content) _ _ (then_keeps (Early of_content) _ _ sizes_early (λ h. numbers-early (sized r room contracts entries h)))
       (λ _. lent-early)) (λ h. finite_early (sized r room contracts entries (both_accepted _ _ (both_accepted _ _ h).0).0))
 
 module _ (b : List ℕ) (room : ℕ) where
   pub bytes-early : Early before_run (byte_checks b room)
-  unfolding byte_checks
   bytes-early = then_keeps (Early before_run) _ _ (fields_early (length b) (walk b) (walk-at_most b)) (λ _. weaker (request-early (request b) room (contracts_of b) (entries_of b)))
 
   pub bytes-parts : Accepted (byte_checks b room) → Accepted (request_checks (request b) room (contracts_of b) (entries_of b))
-  unfolding byte_checks
   bytes-parts h = (both_accepted _ _ h).1
 
   last_early : Accepted (byte_checks b room) → Early of_content (check_symmetric (request b).size (matrix_of b))
   last_early h = symmetric-early (request b) room (contracts_of b) (entries_of b) (request-accepted (request b) room (contracts_of b) (entries_of b) (bytes-parts h)).0
 
   pub checks-early : Early before_run (record_checks b room)
-  unfolding record_checks
   checks-early = then_keeps (Early before_run) _ _ bytes-early (λ h. weaker (last_early h))
 
   -- where its form passes
   pub content-early : Accepted (check_record (length b) (walk b)) → Early of_content (record_checks b room)
-  unfolding record_checks byte_checks
   content-early A =
       let form : Early of_content (check_record (length b) (walk b)) = rw (complete-is (check_record (length b) (walk b)) A.is) complete-early in
       then_keeps (Early of_content) _ _ (then_keeps (Early of_content) _ _ form (λ _. request-early (request b) room (contracts_of b) (entries_of b))) last_early

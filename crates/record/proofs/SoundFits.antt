@@ -6,8 +6,8 @@ use native.Mathlib.Omega.{arith}
 use lib.ListN.{length}
 use lib.Ieee.{Float}
 use Rattle.arithmetic.specs.Outcome.{place, complete}
-use Rattle.arithmetic.specs.declared.outcome.Outcome.{Outcome}
-use Rattle.arithmetic.specs.declared.outcome.Outcome.TheVariants.{StoredNotFinite}
+use Rattle.arithmetic.specs.Outcome.{Outcome}
+use Rattle.arithmetic.specs.declared.refusal.Refusal.TheVariants.{StoredNotFinite}
 use Rattle.matrix.proofs.CellLaws.{square-small}
 use Rattle.matrix.specs.Checks.{check_symmetric}
 use Rattle.arithmetic.proofs.Cases.{is, holds, fails}
@@ -22,8 +22,8 @@ use Rattle.methods.specs.Calls.{method_of}
 use Rattle.methods.specs.declared.method.Method.{Method}
 use Rattle.methods.specs.declared.method.Method.TheVariants.{Gmw81, Se}
 use Rattle.methods.specs.declared.schnabel_eskow.Tolerances.{Tolerances}
-use Rattle.methods.specs.declared.decomposition.Mark.{Mark}
-use Rattle.methods.specs.declared.decomposition.Mark.TheVariants.{Never, Step}
+use Rattle.methods.specs.Marks.{Mark}
+use Rattle.std.specs.Prelude.{Err, None, Some}
 use Rattle.results.specs.Results.{Sound, MarksBelow}
 use Rattle.results.proofs.Theorem.{results}
 use Rattle.encoding.specs.Bytes.{numbers, doubles}
@@ -52,9 +52,9 @@ sound_fits n r np h s t = record {
 }
 
 -- a run's outcome names at most a step
-mark-placed : (n : ℕ) (m : Mark) → n ≤ 48 → ((j : ℕ) → outcome_of m ≡ StoredNotFinite j → j ≤ n) → PlaceFits (place (outcome_of m))
-mark-placed n Never h s = (omega arith, omega arith)
-mark-placed n (Step j) h s = (omega (arith, s j refl), omega arith)
+mark-placed : (n : ℕ) (m : Mark) → n ≤ 48 → ((j : ℕ) → outcome_of m ≡ Err (StoredNotFinite j) → j ≤ n) → PlaceFits (place (outcome_of m))
+mark-placed n None h s = (omega arith, omega arith)
+mark-placed n (Some j) h s = (omega (arith, s j refl), omega arith)
 
 run-placed : (method : Method) (t : Tolerances) (ns : List ℕ) (n : ℕ) (a : List Float) → n ≤ 48 → MarksBelow n (factor method t ns n a).decomposition
     → PlaceFits (place (factor method t ns n a).decomposition.outcome)
@@ -75,7 +75,7 @@ refused-fits o t = record {
   factor_length = omega arith;
 }
   where
-    never : (j : ℕ) → ◌≡◌ {A = Mark} Never (Step j) → ⊥
+    never : (j : ℕ) → ◌≡◌ {A = Mark} None (Some j) → ⊥
     never j e = let z : ◌≡◌ {A = ℕ} 0 1 = cc in omega arith
 
 module _ (r : Request) (room : ℕ) (contracts entries : List ℕ) (h : Accepted (request_checks r room contracts entries)) where

@@ -119,22 +119,3 @@ walk-at_most b =
     let second = step-at_most b 1 one (omega (arith, first)) in
     let third = step-at_most b 2 two (omega (arith, second)) in
     rw (walk_steps b) (step-at_most b 3 (pass_field b 2 two) (omega (arith, third)))
-
--- ---- without a field 04 no part is noted for one
-abbrev Unnumbered : Parts → Type 0
-Unnumbered parts = parts.numbered ≡ false → parts.numbers ≡ nothing
-
-noted-none : (tag : ℕ) (part : Part) (parts : Parts) → Unnumbered parts → Unnumbered (noted tag part parts)
-noted-none tag part parts h = elim (is (eqb tag 0x04)) [ holds e ↦ rw e (λ f. absurd (true≢false f)) | fails e ↦ rw e h ]
-
-step-none : (b : List ℕ) (k : ℕ) (c : Cursor) → Unnumbered c.parts → Unnumbered (pass_field b k c).parts
-step-none b k c h = elim (is (nothing_due c.stage)) [
-  | holds n ↦ rw (step_stays b k c n) h
-  | fails n ↦ elim (is (cut b c.at)) [
-    | holds e ↦ rw (step-stops b k c n e) h
-    | fails e ↦ rw (step-passes b k c n e) (noted-none (get_or b c.at 0) (part_at b c.at) c.parts h)
-  ]
-]
-
-pub walk_none : (b : List ℕ) → Unnumbered (walk b).parts
-walk_none b = rw (walk_steps b) (step-none b 3 _ (step-none b 2 _ (step-none b 1 _ (step-none b 0 walk_start (λ _. refl)))))

@@ -1,7 +1,7 @@
 -- The record call, from its checks, check 8 and the run.
 use mathlib.Core.Path.{◌≡◌, refl, sym, ap, ◌∙◌}
 use mathlib.Core.List.{List, []}
-use mathlib.Core.Bool.{true, false, false≢true}
+use mathlib.Core.Bool.{true, false, false≢true, true≢false}
 use Prim.Native.Nat.{ℕ, ◌+◌, ◌*◌, ◌≤◌}
 use native.Mathlib.Omega.{arith}
 use borrow.Author.Tests.{eq-eqb, ne_eqb}
@@ -10,7 +10,7 @@ use lib.Seq.{length-take-le}
 use lib.Dec.{T}
 use lib.Ieee.{Float, nan, binary64, fits}
 use Rattle.arithmetic.specs.Outcome.{complete, place, ◌then◌}
-use Rattle.arithmetic.specs.declared.outcome.Outcome.{Outcome}
+use Rattle.arithmetic.specs.Outcome.{Outcome}
 use Rattle.matrix.specs.Checks.{check_symmetric}
 use Rattle.matrix.proofs.CheckLaws.{Accepted, entries-accepted, symmetric-accepted}
 use Rattle.arithmetic.proofs.Cases.{is, holds, fails}
@@ -19,7 +19,7 @@ use Rattle.methods.specs.Calls.{Call, call, answered, method_of, Operands}
 use Rattle.methods.specs.declared.method.Method.{Method}
 use Rattle.methods.specs.declared.decomposition.Decomposition.{Decomposition}
 use Rattle.encoding.specs.Bytes.{numbers, doubles}
-use Rattle.record.specs.Cursor.{content_at, walk}
+use Rattle.record.specs.Cursor.{content_at, optional_content, walk}
 use Rattle.record.specs.MatrixRecord.{request_of, request, contracts_of, entries_of, check_record, request_checks, byte_checks}
 use Rattle.answer_record.specs.AnswerRecord.{longest_answer, answer_record}
 use Rattle.record.specs.Record.{refused, result_of, result_to, Lent, OwnContracts, request_call, answer, record_call_of, Answers, Counts, record_call}
@@ -27,7 +27,8 @@ use Rattle.answer_record.specs.Writing.{Front, MarksFit, PlaceFits, Fits, result
 use Rattle.record.specs.declared.cursor.Cursor.{Cursor}
 use Rattle.record.specs.declared.cursor.Part.{Part}
 use Rattle.record.specs.declared.read.Request.{Request}
-use Rattle.record.proofs.Walk.{walk_none}
+use Rattle.std.specs.Prelude.{Option, None, Some}
+use Rattle.std.specs.Option.{is_some}
 use Rattle.record.proofs.Accepted.{request-accepted}
 use Rattle.record.specs.declared.answer.RecordAnswer.{RecordAnswer}
 use Rattle.record.proofs.Answers.{answer-request, bytes-refused, other_checks}
@@ -103,7 +104,7 @@ module _ (r : Request) (contracts entries ns : List ℕ) (a l work e : List Floa
         record { front = rw (← e) w; outcome_is = ap (λ (x : Decomposition). x.outcome) decomposition-is }
 
 -- ---- what is read off a walk over b
-module _ (b : List ℕ) (c : Cursor) (r : Request) (contracts entries : List ℕ) (walks : c ≡ walk b) (reads : r ≡ request_of b c) (numbers-part : contracts ≡ content_at b r.numbers) (entries-part : entries ≡ content_at b r.entries) where
+module _ (b : List ℕ) (c : Cursor) (r : Request) (contracts entries : List ℕ) (walks : c ≡ walk b) (reads : r ≡ request_of b c) (numbers-part : contracts ≡ optional_content b r.numbers) (entries-part : entries ≡ content_at b r.entries) where
   pub request-read : r ≡ request b
   unfolding request
   request-read = reads ∙ rw walks
@@ -115,13 +116,13 @@ module _ (b : List ℕ) (c : Cursor) (r : Request) (contracts entries : List ℕ
   contracts-read = numbers-part ∙ rw request-read
 
   pub contracts-own : OwnContracts r contracts
-  unfolding request
-  contracts-own h =
-      let e : (request b).numbered ≡ false = rw request-read at h in
-      ap length contracts-read ∙ ap (λ (p : Part). length (content_at b p)) (walk_none b e)
+  contracts-own h = ap length numbers-part ∙ none r.numbers h
+    where
+      none : (part : Option Part) → is_some part ≡ false → length (optional_content b part) ≡ 0
+      none None h = refl
+      none (Some part) h = absurd (true≢false h)
 
   pub checks-made : (room : ℕ) (first rest o : Outcome) → first ≡ check_record (length b) c → rest ≡ request_checks r room contracts entries → o ≡ (first then rest) → o ≡ byte_checks b room
-  unfolding byte_checks
   checks-made room first rest o ef er eo = eo ∙ rw (ef, er, walks, entries-read, contracts-read, request-read)
 
   pub request-answers : complete (byte_checks b longest_answer) ≡ true → (out out' : List ℕ) (x : RecordAnswer) → Answers (result_to r contracts entries) out out' x → Answers (result_of b) out out' x

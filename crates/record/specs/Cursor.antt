@@ -1,5 +1,5 @@
 -- A walk over a record's fields, from the first on: which tags are due, and where the content of each field stands.
-use Rattle.std.specs.Prelude.{List, Bool, true, false, cond, ◌||◌, ℕ, ◌+◌, ◌-◌, length, get_or, take, drop, eqb, ltb}
+use Rattle.std.specs.Prelude.{List, [], Option, None, Some, Bool, true, false, cond, ℕ, ◌+◌, ◌-◌, length, get_or, take, drop, eqb, ltb}
 use Rattle.arithmetic.specs.Loop.{range}
 use Rattle.encoding.specs.Bytes.{low_first}
 use Rattle.record.specs.declared.cursor.Cursor.{Cursor}
@@ -36,18 +36,14 @@ nothing_due (PastEnd field) = true
 nothing_due (WrongTag field found) = true
 
 -- where the content of the field with a tag stands: in its part, and the others stay
-abbrev pub noted_if : ℕ → ℕ → Part → Part → Part
+abbrev pub noted_if : {A : Type 0} → ℕ → ℕ → A → A → A
 noted_if tag due part before = cond (eqb tag due) part before
-
-abbrev pub found_if : ℕ → ℕ → Bool → Bool
-found_if tag due before = eqb tag due || before
 
 abbrev pub noted : ℕ → Part → Parts → Parts
 noted tag part parts = record {
   size = noted_if tag 0x01 part parts.size;
   method = noted_if tag 0x02 part parts.method;
-  numbered = found_if tag 0x04 parts.numbered;
-  numbers = noted_if tag 0x04 part parts.numbers;
+  numbers = noted_if tag 0x04 (Some part) parts.numbers;
   entries = noted_if tag 0x03 part parts.entries;
 }
 
@@ -61,6 +57,11 @@ cut b at = ltb (length b - at) (3 + (part_at b at).len)
 
 abbrev pub content_at : List ℕ → Part → List ℕ
 content_at b part = take part.len (drop part.start b)
+
+-- .. none where there is no such part
+abbrev pub optional_content : List ℕ → Option Part → List ℕ
+optional_content b None = []
+optional_content b (Some part) = content_at b part
 
 -- ---- the walk: field k is passed, unless the walk has stopped
 unfoldable pub pass_field : List ℕ → ℕ → Cursor → Cursor
@@ -76,7 +77,7 @@ abbrev pub nothing : Part
 nothing = record { start = 0; len = 0 }
 
 abbrev pub walk_start : Cursor
-walk_start = record { at = 0; stage = SizeDue; parts = record { size = nothing; method = nothing; numbered = false; numbers = nothing; entries = nothing } }
+walk_start = record { at = 0; stage = SizeDue; parts = record { size = nothing; method = nothing; numbers = None; entries = nothing } }
 
 unfoldable pub walk : List ℕ → Cursor
 unfolding range pass_field

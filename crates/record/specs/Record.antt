@@ -1,14 +1,14 @@
 -- The answer to a record: every list of bytes has one.
 use Rattle.std.specs.Prelude.{List, [], false, cond, ◌≡◌, ℕ, ◌*◌, ◌<◌, ◌≤◌, eqb, length, take, Float}
 use Rattle.arithmetic.specs.Outcome.{complete}
-use Rattle.arithmetic.specs.declared.outcome.Outcome.{Outcome}
+use Rattle.arithmetic.specs.Outcome.{Outcome}
 use Rattle.matrix.specs.Matrix.{Square}
 use Rattle.matrix.specs.Checks.{check_symmetric, AllFinite}
 use Rattle.methods.specs.Result.{Result}
 use Rattle.methods.specs.Factor.{factor, tolerances}
 use Rattle.methods.specs.Calls.{Call, method_of, unstarted, answered, untouched}
 use Rattle.encoding.specs.Bytes.{numbers, doubles}
-use Rattle.record.specs.MatrixRecord.{request, numbers_of, matrix_of, record_checks}
+use Rattle.record.specs.MatrixRecord.{request, numbered, numbers_of, matrix_of, record_checks}
 use Rattle.answer_record.specs.AnswerRecord.{longest_answer, answer_record}
 use Rattle.encoding.specs.Writing.{over}
 use Rattle.answer_record.specs.Writing.{Front}
@@ -21,7 +21,7 @@ refused outcome = record { decomposition = unstarted outcome; l = []; e = []; p 
 
 -- what a record's checks and run end with, where the answer's buffer has its own length
 unfoldable pub result_of : List ℕ → Result
-unfolding record_checks request factor numbers doubles
+unfolding request factor numbers doubles
 result_of b = let checks = record_checks b longest_answer in
     cond (complete checks) (factor (method_of (request b).method) tolerances (numbers_of b) (request b).size (matrix_of b)) (refused checks)
 
@@ -59,7 +59,7 @@ result_to r contracts entries =
 
 -- without a field 04 there are no bytes of one
 abbrev pub OwnContracts : Request → List ℕ → Type 0
-OwnContracts r contracts = r.numbered ≡ false → length contracts ≡ 0
+OwnContracts r contracts = numbered r ≡ false → length contracts ≡ 0
 
 -- the answer to a result stands at the front of the buffer, and its length and outcome are handed back
 pub record Answers (t : Result) (out out' : List ℕ) (r : RecordAnswer) : Type 0 where

@@ -9,7 +9,7 @@ use crate::read::Request;
 use crate::{cursor, read};
 use answer_record::write;
 use answer_record::write::LONGEST_ANSWER;
-use arithmetic::outcome::Outcome;
+use arithmetic::refusal::Refusal;
 use encoding::read::{read_doubles, read_numbers};
 use matrix::checks::check_symmetric;
 use methods::decomposition::Decomposition;
@@ -30,17 +30,17 @@ fn factor_request(
     ensures { call result l.new work.new e.new p.new ≡ request_call r numbers.now a.now l.old work.old e.old p.old }
 {
     let n = r.size;
-    let symmetric = check_symmetric(n, a);
-    if !symmetric.complete() {
-        return calls::untouched(symmetric);
+    match check_symmetric(n, a) {
+        Ok(()) => calls::run(Method::of(r.method), a, n, numbers, l, work, e, p),
+        Err(refusal) => calls::untouched(Err(refusal)),
     }
-    calls::run(Method::of(r.method), a, n, numbers, l, work, e, p)
 }
 
-// How the call ended, and the answer's length.
+// How the call ended, and the answer's length, which a refusal has too: its answer record is written. The buffer is the caller's, by the C
+// interface.
 #[derive(Clone, Copy)]
 pub struct RecordAnswer {
-    pub outcome: Outcome,
+    pub outcome: Result<(), Refusal>,
     pub len: usize,
 }
 
@@ -65,16 +65,13 @@ fn answer_entries(
     read_numbers(contracts, numbers);
     read_doubles(entries, a);
     let d = factor_request(r, a, numbers, l, work, e, p);
-    let outcome = d.outcome;
-    if outcome.complete() {
-        return RecordAnswer {
-            outcome,
-            len: write::write_complete(out, d, l, e, p),
-        };
-    }
+    let len = match d.outcome {
+        Ok(()) => write::write_complete(out, d, l, e, p),
+        Err(_) => write::write_refusal(out, d),
+    };
     RecordAnswer {
-        outcome,
-        len: write::write_refusal(out, d),
+        outcome: d.outcome,
+        len,
     }
 }
 
@@ -114,19 +111,18 @@ pub fn answer(b: &[u8], out: &mut [u8]) -> RecordAnswer
 {
     let c = cursor::walk(b);
     let r = read::read_request(b, c);
-    let contracts = cursor::content(b, r.numbers);
+    let contracts = cursor::optional_content(b, r.numbers);
     let entries = cursor::content(b, r.entries);
     let room = out.len();
-    let checks = read::request_checks(r, room, contracts, entries);
-    let outcome = read::check_record(b.len(), c).then(checks);
+    let outcome = read::byte_checks(b.len(), c, r, room, contracts, entries);
     if room != LONGEST_ANSWER {
         return RecordAnswer { outcome, len: 0 };
     }
-    if !outcome.complete() {
-        return RecordAnswer {
+    match outcome {
+        Ok(()) => answer_request(r, contracts, entries, out),
+        Err(refusal) => RecordAnswer {
             outcome,
-            len: write::write_refusal(out, calls::untouched(outcome)),
-        };
+            len: write::write_refusal(out, calls::untouched(Err(refusal))),
+        },
     }
-    answer_request(r, contracts, entries, out)
 }

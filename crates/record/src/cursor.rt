@@ -1,8 +1,6 @@
 // A walk over a record's fields. A field has a one-byte tag, a two-byte length, low byte first, and its content.
 ghost use Rattle.std.specs.Prelude.{◌≡◌, ◌-◌, ◌≤◌, ◌<◌, length, get_or};
-ghost use Rattle.record.specs.Cursor.{expect, after, nothing_due, noted_if, found_if, noted, part_at, cut, content_at, pass_field, walk};
-
-use encoding::read::whole;
+ghost use Rattle.record.specs.Cursor.{expect, after, nothing_due, noted_if, noted, part_at, cut, content_at, optional_content, pass_field, walk};
 
 // Which field is due, or how the walk ended: a field's index counts those that stand in the record.
 #[derive(Clone, Copy)]
@@ -31,9 +29,8 @@ pub struct Part {
 pub struct Parts {
     pub size: Part,
     pub method: Part,
-    // Whether a field 04 was found.
-    pub numbered: bool,
-    pub numbers: Part,
+    // Of a field 04, where there is one.
+    pub numbers: Option<Part>,
     pub entries: Part,
 }
 
@@ -52,20 +49,14 @@ const MOST_FIELDS: usize = 4;
 pub fn byte_at(b: &[u8], at: usize) -> usize
     ensures { (result ≡ get_or b.now at 0) × (result < 256) }
 {
-    if at < b.len() {
-        return whole(b[at]);
-    }
-    0
+    usize::from(b.get(at).copied().unwrap_or(0))
 }
 
 // How many bytes there are from `at` on.
 fn bytes_left(b: &[u8], at: usize) -> usize
     ensures { result ≡ length b.now - at }
 {
-    if b.len() < at {
-        return 0;
-    }
-    b.len() - at
+    b.len().saturating_sub(at)
 }
 
 // The content of the field whose header stands at `at`.
@@ -75,7 +66,7 @@ fn part_at(b: &[u8], at: usize) -> Part
 {
     Part {
         start: at + 3,
-        len: byte_at(b, at + 1) + 256 * byte_at(b, at + 2),
+        len: usize::from(u16::from_le_bytes([b[at + 1], b[at + 2]])),
     }
 }
 
@@ -135,38 +126,20 @@ fn nothing_due(stage: Stage) -> bool
 }
 
 // The part found where the field's tag is this one, else what was noted before.
-fn noted_if(tag: usize, due: usize, part: Part, before: Part) -> Part
+fn noted_if<T: Copy>(tag: usize, due: usize, part: T, before: T) -> T
     ensures { result ≡ noted_if tag due part before }
 {
-    if tag == due {
-        return part;
-    }
-    before
-}
-
-// Whether a field with this tag was found.
-fn found_if(tag: usize, due: usize, before: bool) -> bool
-    ensures { result ≡ found_if tag due before }
-{
-    if tag == due {
-        return true;
-    }
-    before
+    if tag == due { part } else { before }
 }
 
 fn noted(parts: Parts, tag: usize, part: Part) -> Parts
     ensures { result ≡ noted tag part parts }
 {
-    let size = parts.size;
-    let method = parts.method;
-    let numbers = parts.numbers;
-    let entries = parts.entries;
     Parts {
-        size: noted_if(tag, 0x01, part, size),
-        method: noted_if(tag, 0x02, part, method),
-        numbered: found_if(tag, 0x04, parts.numbered),
-        numbers: noted_if(tag, 0x04, part, numbers),
-        entries: noted_if(tag, 0x03, part, entries),
+        size: noted_if(tag, 0x01, part, parts.size),
+        method: noted_if(tag, 0x02, part, parts.method),
+        numbers: noted_if(tag, 0x04, Some(part), parts.numbers),
+        entries: noted_if(tag, 0x03, part, parts.entries),
     }
 }
 
@@ -206,8 +179,7 @@ pub fn walk(b: &[u8]) -> Cursor
         parts: Parts {
             size: none,
             method: none,
-            numbered: false,
-            numbers: none,
+            numbers: None,
             entries: none,
         },
     };
@@ -221,14 +193,17 @@ pub fn walk(b: &[u8]) -> Cursor
 pub fn content(b: &[u8], part: Part) -> &[u8]
     ensures { result.now ≡ content_at b.now part }
 {
-    let start = part.start;
-    let len = b.len();
-    if len < start {
-        return &b[len..len];
+    let start = part.start.min(b.len());
+    let len = part.len.min(b.len() - start);
+    &b[start..start + len]
+}
+
+// .. none where there is no such part.
+pub fn optional_content(b: &[u8], part: Option<Part>) -> &[u8]
+    ensures { result.now ≡ optional_content b.now part }
+{
+    match part {
+        Some(part) => content(b, part),
+        None => &[],
     }
-    if len - start < part.len {
-        return &b[start..len];
-    }
-    let end = start + part.len;
-    &b[start..end]
 }

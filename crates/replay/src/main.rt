@@ -2,7 +2,7 @@
 // Writes a line for each case that differs, and a closing count.
 #![tactic(auto)]
 
-ghost use Rattle.std.specs.Prelude.{◌<◌, ◌≤◌, IfOk};
+ghost use Rattle.std.specs.Prelude.{◌≤◌, IfOk};
 ghost use Rattle.record.specs.Record.{Counts};
 
 use answer_record::write::LONGEST_ANSWER;
@@ -11,20 +11,13 @@ use record::answer::answer;
 use std::io::Read;
 use std::{fs, io};
 
-fn whole(x: u8) -> usize
-    ensures { result < 256 }
-{
-    x as usize
-}
-
-// A length in two bytes, low byte first; 65,536 where the list ends.
-fn read_length(list: &mut impl Read) -> usize {
-    let mut two = [0u8; 2];
-    let got = read_full(list, &mut two);
-    if got < 2 {
-        return 65536;
+// A length in two bytes, low byte first; none where the list ends.
+fn read_length(list: &mut impl Read) -> Option<usize> {
+    let mut two = [0; 2];
+    if read_full(list, &mut two) < 2 {
+        return None;
     }
-    whole(two[0]) + 256 * whole(two[1])
+    Some(usize::from(u16::from_le_bytes(two)))
 }
 
 // The next bytes of the list, at the start of buf; none where they don't fit.
@@ -48,7 +41,8 @@ fn next_same(list: &mut impl Read, len: usize) -> bool {
     let mut input = [0; 18639];
     let mut wanted = [0; LONGEST_ANSWER];
     let n = read_part(list, len, &mut input);
-    let wanted_len = read_length(list);
+    // An answer that isn't there is empty.
+    let wanted_len = read_length(list).unwrap_or(0);
     let m = read_part(list, wanted_len, &mut wanted);
     same_answer(&input[..n], &wanted[..m])
 }
@@ -69,10 +63,9 @@ fn replay(rt: &impl Print, list: &mut impl Read) -> io::Result<()> {
     let mut cases = 0;
     let mut different = 0;
     for k in 0..65536u64 {
-        let len = read_length(list);
-        if len == 65536 {
+        let Some(len) = read_length(list) else {
             break;
-        }
+        };
         different += report(rt, k, next_same(list, len))?;
         cases = k + 1;
     }

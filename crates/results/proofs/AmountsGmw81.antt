@@ -17,7 +17,7 @@ use Rattle.arithmetic.proofs.Cases.{Is, is, holds, fails}
 use Rattle.methods.specs.Marks.{marked}
 use Rattle.methods.specs.Statements.{pivot_matrix}
 use Rattle.methods.specs.Gmw81.{Run, start, theta_of, d_of, c₂Of, stored_finite, step_at, finish, stepped, run}
-use Rattle.methods.specs.declared.decomposition.Mark.TheVariants.{Never}
+use Rattle.std.specs.Prelude.{None}
 use Rattle.methods.proofs.Moved.{pivot-entries}
 use Rattle.methods.proofs.GmwLaws.{started_is, step-at_is, finish-goes}
 use Rattle.methods.proofs.GmwRuns.{KeptBySteps, steps_keep, l₂Of, c₃Of, step_d, step_e, step-never, run_is, finish-never}
@@ -42,7 +42,7 @@ stored-amount n j l c dj ej h =
 module _ (n : ℕ) (delta beta : Float) where
   record Kept (s : Run) : Type 0 where
     entries : Entries n s.c
-    amounts : s.progress.refused ≡ Never → Amounts n s.e
+    amounts : s.progress.refused ≡ None → Amounts n s.e
 
   kept_at : (j k : ℕ) (tie : Bool) (s : Run) → j < n → j + k < n → Kept s → Kept (step_at n delta beta j k tie s)
   kept_at j k tie s pj pk K =
@@ -67,11 +67,11 @@ module _ (n : ℕ) (delta beta : Float) where
   start-kept a = record { entries = start-entries n a; amounts = λ r. rw started_is (zeros-amounts n) }
 
 -- ---- a whole run
-finish-amounts : (n : ℕ) (s : Run) → (s.progress.refused ≡ Never → Amounts n s.e) → (finish n s).progress.refused ≡ Never → Amounts n (finish n s).e
+finish-amounts : (n : ℕ) (s : Run) → (s.progress.refused ≡ None → Amounts n s.e) → (finish n s).progress.refused ≡ None → Amounts n (finish n s).e
 finish-amounts n s A r =
     let r' = finish-never n s r in
     rw (finish-goes n s (ap marked r')) (reorder-amounts n s.p s.e (A r'))
 
-pub amounts-gmw81 : (numbers : List ℕ) (n : ℕ) (a : List Float) → (run numbers n a).progress.refused ≡ Never → Amounts n (run numbers n a).e
-amounts-gmw81 numbers n a = subst (λ (x : Run). x.progress.refused ≡ Never → Amounts n x.e) (sym (run_is numbers n a))
+pub amounts-gmw81 : (numbers : List ℕ) (n : ℕ) (a : List Float) → (run numbers n a).progress.refused ≡ None → Amounts n (run numbers n a).e
+amounts-gmw81 numbers n a = subst (λ (x : Run). x.progress.refused ≡ None → Amounts n x.e) (sym (run_is numbers n a))
     (finish-amounts n (stepped numbers n a) (steps_keep numbers n _ _ (λ j s. Kept n _ _ s) (kept n _ _) a (start-kept n _ _ a)).amounts)

@@ -15,8 +15,8 @@ use Rattle.arithmetic.proofs.OrderLaws.{lt-irreflexive}
 use Rattle.matrix.specs.Matrix.{zeros}
 use Rattle.methods.specs.Statements.{reorder}
 use Rattle.methods.specs.Result.{filled}
-use Rattle.methods.specs.declared.decomposition.Mark.{Mark}
-use Rattle.methods.specs.declared.decomposition.Mark.TheVariants.{Never, Step}
+use Rattle.methods.specs.Marks.{Mark}
+use Rattle.std.specs.Prelude.{None, Some}
 use Rattle.methods.proofs.FiniteEntries.{zero_finite}
 use Rattle.results.specs.Results.{Amounts}
 
@@ -47,6 +47,6 @@ reorder-amounts n p e A = range-ind (λ i x. Amounts n x) 0 n (λ i x. set x (ge
     (λ i u w x B. set-amounts n x (get_or p i 0) (get_or e i nan) (A.finite_amounts i w) (A.not_negative i w) B)
 
 -- the fillings of a refused run
-pub filled-amounts : (m : Mark) (n : ℕ) (e : List Float) → (m ≡ Never → Amounts n e) → Amounts n (filled m n e)
-filled-amounts Never n e h = h refl
-filled-amounts (Step k) n e h = zeros-amounts n
+pub filled-amounts : (m : Mark) (n : ℕ) (e : List Float) → (m ≡ None → Amounts n e) → Amounts n (filled m n e)
+filled-amounts None n e h = h refl
+filled-amounts (Some k) n e h = zeros-amounts n

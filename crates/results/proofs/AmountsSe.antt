@@ -8,11 +8,10 @@ use lib.Ieee.{Float, lt}
 use Rattle.arithmetic.specs.Double.{plus_zero}
 use Rattle.arithmetic.proofs.Maximum.{max-not_negative}
 use Rattle.matrix.specs.Matrix.{at}
-use Rattle.methods.specs.Marks.{mark}
+use Rattle.methods.specs.Marks.{mark, Mark}
 use Rattle.methods.specs.Statements.{diagonal_max, pivot_matrix, reorder}
 use Rattle.methods.specs.Se.{Run, start, pivot, factorize, amount, phase_two_step_at, pair_of, one_of, add_pair, add_one, add_last, last_pair, last_one, begin, run}
-use Rattle.methods.specs.declared.decomposition.Mark.{Mark}
-use Rattle.methods.specs.declared.decomposition.Mark.TheVariants.{Never, Step}
+use Rattle.std.specs.Prelude.{None, Some}
 use Rattle.methods.specs.declared.schnabel_eskow.Tolerances.{Tolerances}
 use Rattle.methods.specs.declared.schnabel_eskow.Variant.{Variant}
 use Rattle.methods.specs.declared.schnabel_eskow.Last.{Last}
@@ -26,22 +25,22 @@ use Rattle.results.proofs.AmountsLast.{PositiveTolerances, one-not_negative}
 
 -- what holds of e while the run is not refused
 abbrev Kept : ℕ → Run → Type 0
-Kept n s = s.progress.refused ≡ Never → Amounts n s.e
+Kept n s = s.progress.refused ≡ None → Amounts n s.e
 
 -- ---- phase one stores no amount; where it is left at n - 1, a test passed there
 module _ (v : Variant) (t : Tolerances) (gamma : Float) (n : ℕ) where
   abbrev Left : Mark → List Float → Type 0
-  Left m l = m ≡ Step (n - 1) → Leaves v t gamma n (n - 1) l
+  Left m l = m ≡ Some (n - 1) → Leaves v t gamma n (n - 1) l
 
   record First (s : Run) : Type 0 where
     amounts : Kept n s
     left : Left s.progress.phase2 s.l
 
-  none_left : (m : Mark) (l : List Float) → m ≡ Never → Left m l
+  none_left : (m : Mark) (l : List Float) → m ≡ None → Left m l
   none_left m l e k = clash m (n - 1) e k
 
-  left_at : (j : ℕ) (m : Mark) (l : List Float) → m ≡ Never → Leaves v t gamma n j l → Left (mark m true j) l
-  left_at j m l e w k = subst (λ (i : ℕ). Leaves v t gamma n i l) (let e' : mark m true j ≡ Step j = rw e in cc) w
+  left_at : (j : ℕ) (m : Mark) (l : List Float) → m ≡ None → Leaves v t gamma n j l → Left (mark m true j) l
+  left_at j m l e w k = subst (λ (i : ℕ). Leaves v t gamma n i l) (let e' : mark m true j ≡ Some j = rw e in cc) w
 
   kept-one : KeptInPhaseOne v t gamma n First
   unfolding pivot factorize
@@ -53,7 +52,7 @@ module _ (v : Variant) (t : Tolerances) (gamma : Float) (n : ℕ) where
 
   start_first : (a : List Float) → First (start n a)
   unfolding start
-  start_first a = record { amounts = λ r. zeros-amounts n; left = none_left Never a refl }
+  start_first a = record { amounts = λ r. zeros-amounts n; left = none_left None a refl }
 
 -- ---- amounts that begin as 0.0.max(..)
 amount-not_negative : (v : Variant) (t : Tolerances) (gamma delta-prev ljj normj : Float) → lt (amount v t gamma delta-prev ljj normj) plus_zero ≡ false
@@ -106,8 +105,8 @@ module _ (v : Variant) (t : Tolerances) (P : PositiveTolerances t) (numbers : Li
   }
 
   -- before they are put in the order of the original rows
-  run-amounts : (run v t numbers n a).progress.refused ≡ Never → Amounts n (run v t numbers n a).e
+  run-amounts : (run v t numbers n a).progress.refused ≡ None → Amounts n (run v t numbers n a).e
   run-amounts = run-keeps v t numbers n a (First v t (diagonal_max n a) n) (Kept n) (kept-one v t (diagonal_max n a) n) kept-two (start_first v t (diagonal_max n a) n a)
 
-  pub amounts-se : (run v t numbers n a).progress.refused ≡ Never → Amounts n (reorder n (run v t numbers n a).p (run v t numbers n a).e)
+  pub amounts-se : (run v t numbers n a).progress.refused ≡ None → Amounts n (reorder n (run v t numbers n a).p (run v t numbers n a).e)
   amounts-se r = reorder-amounts n (run v t numbers n a).p (run v t numbers n a).e (run-amounts r)

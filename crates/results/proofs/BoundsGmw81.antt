@@ -12,11 +12,10 @@ use Rattle.arithmetic.specs.Double.{plus_zero, one, epsilon, ◌⊕◌, ◌⊘�
 use Rattle.arithmetic.specs.AtLeast.{AtLeast}
 use Rattle.arithmetic.proofs.Maximum.{at_least_self, max-left, max-right, epsilon-times}
 use Rattle.arithmetic.proofs.Cases.{Is, is, holds, fails}
-use Rattle.methods.specs.Marks.{mark, marked}
+use Rattle.methods.specs.Marks.{mark, marked, Mark}
 use Rattle.methods.specs.Statements.{diagonal_max}
 use Rattle.methods.specs.Gmw81.{Run, start, d_of, step_at, finish, stepped, off_diagonal_max, delta_of}
-use Rattle.methods.specs.declared.decomposition.Mark.{Mark}
-use Rattle.methods.specs.declared.decomposition.Mark.TheVariants.{Never, Step}
+use Rattle.std.specs.Prelude.{None, Some}
 use Rattle.methods.proofs.GmwLaws.{started_is, step-at_is, finish-stays, finish-goes}
 use Rattle.methods.proofs.GmwRuns.{KeptBySteps, steps_keep, step_d, run_is}
 use Rattle.methods.proofs.MarkLaws.{mark-keeps}
@@ -41,9 +40,9 @@ d_bound cjj theta beta delta h = max-right epsilon (max (abs cjj) (square (theta
 below_next : (j : ℕ) (m : Mark) → Below j m → Below (suc j) m
 below_next j m B k e = omega (arith, B k e)
 
-marked_step : (m : Mark) → marked m ≡ true → (k : ℕ) × (m ≡ Step k)
-marked_step Never h = absurd (true≢false (sym h))
-marked_step (Step k) h = (k, refl)
+marked_step : (m : Mark) → marked m ≡ true → (k : ℕ) × (m ≡ Some k)
+marked_step None h = absurd (true≢false (sym h))
+marked_step (Some k) h = (k, refl)
 
 taken_before : (i j : ℕ) (m : Mark) (b : Bool) → Taken i (mark m b j) → Taken i m
 taken_before i j m b t k e = t k (mark-keeps m b j k e)

@@ -21,8 +21,8 @@ use Rattle.matrix.specs.Table.{table}
 use Rattle.methods.specs.AcceptedMatrix.{AcceptedMatrix}
 use Rattle.methods.specs.Result.{filled}
 use Rattle.methods.specs.Statements.{pivot_matrix, eliminate_entry, divide_entries, eliminate_row, eliminate, clear_after, lower_triangle, reorder}
-use Rattle.methods.specs.declared.decomposition.Mark.{Mark}
-use Rattle.methods.specs.declared.decomposition.Mark.TheVariants.{Never, Step}
+use Rattle.methods.specs.Marks.{Mark}
+use Rattle.std.specs.Prelude.{None, Some}
 use Rattle.methods.proofs.SeLaws.{cond_keeps}
 use Rattle.arithmetic.specs.DoubleList.{AllDoubles}
 
@@ -151,6 +151,6 @@ unfolding reorder
 reorder-doubles n p e D = range-keeps EachDouble 0 n (λ i x. set x (get_or p i 0) (get_or e i nan)) e (λ i x E. set-doubles x (get_or p i 0) (get_or e i nan) (D.each i) E) D
 
 -- .. and the fillings of a refused one
-pub filled-doubles : (m : Mark) (size : ℕ) (xs : List Float) → (m ≡ Never → EachDouble xs) → EachDouble (filled m size xs)
-filled-doubles Never size xs h = h refl
-filled-doubles (Step j) size xs h = zeros-doubles size
+pub filled-doubles : (m : Mark) (size : ℕ) (xs : List Float) → (m ≡ None → EachDouble xs) → EachDouble (filled m size xs)
+filled-doubles None size xs h = h refl
+filled-doubles (Some j) size xs h = zeros-doubles size

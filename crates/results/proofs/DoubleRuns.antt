@@ -16,7 +16,7 @@ use Rattle.methods.specs.Marks.{marked}
 use Rattle.methods.specs.Statements.{diagonal_max, pivot_matrix, lower_triangle, reorder}
 use Rattle.methods.specs.Gmw81 as gmw
 use Rattle.methods.specs.Se.{Run, start, pivot, factorize, least_amount, amount, added, phase_two_step_at, last_amount, pair_of, one_of, root_above, quotient_below, root_below, add_pair, add_one, add_last, last_pair, last_one, begin, run}
-use Rattle.methods.specs.declared.decomposition.Mark.TheVariants.{Never}
+use Rattle.std.specs.Prelude.{None}
 use Rattle.methods.specs.declared.schnabel_eskow.Tolerances.{Tolerances}
 use Rattle.methods.specs.declared.schnabel_eskow.Variant.{Variant}
 use Rattle.methods.specs.declared.schnabel_eskow.Variant.TheVariants.{Se90, Se99}
@@ -44,14 +44,14 @@ kept-gmw81 n delta beta = record {
   refused = λ j s h D. D;
 }
 
-finish-doubles : (n : ℕ) (s : gmw.Run) → EachDouble s.e → (gmw.finish n s).progress.refused ≡ Never → DoublesEnd (gmw.finish n s).l (gmw.finish n s).e
+finish-doubles : (n : ℕ) (s : gmw.Run) → EachDouble s.e → (gmw.finish n s).progress.refused ≡ None → DoublesEnd (gmw.finish n s).l (gmw.finish n s).e
 finish-doubles n s D = go (is (marked s.progress.refused))
   where
-    go : Is (marked s.progress.refused) → (gmw.finish n s).progress.refused ≡ Never → DoublesEnd (gmw.finish n s).l (gmw.finish n s).e
+    go : Is (marked s.progress.refused) → (gmw.finish n s).progress.refused ≡ None → DoublesEnd (gmw.finish n s).l (gmw.finish n s).e
     go (holds h) = rw (finish-stays n s h) (λ e. absurd (true≢false (sym h ∙ ap marked e)))
     go (fails h) = rw (finish-goes n s h) (λ e. record { factor = product-doubles n (gmw.unit_lower n s.l) (gmw.dout_of n s.d); amounts = reorder-doubles n s.p s.e D })
 
-pub doubles-gmw81 : (numbers : List ℕ) (n : ℕ) (a : List Float) → (gmw.run numbers n a).progress.refused ≡ Never → DoublesEnd (gmw.run numbers n a).l (gmw.run numbers n a).e
+pub doubles-gmw81 : (numbers : List ℕ) (n : ℕ) (a : List Float) → (gmw.run numbers n a).progress.refused ≡ None → DoublesEnd (gmw.run numbers n a).l (gmw.run numbers n a).e
 doubles-gmw81 numbers n a = rw run_is (finish-doubles n (gmw.stepped numbers n a) (steps_keep numbers n _ _ (λ j s. EachDouble s.e) (kept-gmw81 n _ _) a (rw started_is (zeros-doubles n))))
 
 -- ---- SE90 and SE99

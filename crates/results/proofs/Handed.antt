@@ -8,8 +8,8 @@ use lib.Ieee.{Float}
 use Rattle.arithmetic.specs.Outcome.{complete}
 use Rattle.methods.specs.Reloading.{LoadOrder}
 use Rattle.methods.specs.Result.{identity, outcome_of, filled_order, filled_count, reported, hand_back}
-use Rattle.methods.specs.declared.decomposition.Mark.{Mark}
-use Rattle.methods.specs.declared.decomposition.Mark.TheVariants.{Never, Step}
+use Rattle.methods.specs.Marks.{Mark}
+use Rattle.std.specs.Prelude.{None, Some}
 use Rattle.methods.specs.declared.progress.Progress.{Progress}
 use Rattle.methods.proofs.Pivots.{Permuted, permuted_order, identity-permuted}
 use Rattle.results.specs.Results.{Amounts, LowerFactor, Count, Sound}
@@ -20,26 +20,26 @@ use Rattle.results.proofs.DoubleRuns.{DoublesEnd}
 use Rattle.results.proofs.Marks.{ProgressBelow, reported-marks}
 
 filled-order : (m : Mark) (n : ℕ) (p : List ℕ) → Permuted n p → LoadOrder n (filled_order m n p)
-filled-order Never n p P = permuted_order n p P
-filled-order (Step j) n p P = permuted_order n (identity n) (identity-permuted n)
+filled-order None n p P = permuted_order n p P
+filled-order (Some j) n p P = permuted_order n (identity n) (identity-permuted n)
 
 -- ---- 0 where the run was refused
 filled-most : (m : Mark) (n inexact : ℕ) → inexact ≤ n → filled_count m inexact ≤ n
-filled-most Never n inexact h = h
-filled-most (Step j) n inexact h = omega arith
+filled-most None n inexact h = h
+filled-most (Some j) n inexact h = omega arith
 
 filled_none : (m : Mark) (inexact : ℕ) → complete (outcome_of m) ≡ false → filled_count m inexact ≡ 0
-filled_none Never inexact h = absurd (false≢true (sym h))
-filled_none (Step j) inexact h = refl
+filled_none None inexact h = absurd (false≢true (sym h))
+filled_none (Some j) inexact h = refl
 
 pub reported-count : (n : ℕ) (r : Progress) → r.inexact ≤ n → Count n (reported r)
 reported-count n r h = record { most = filled-most r.refused n r.inexact h; refused = filled_none r.refused r.inexact }
 
 -- a run's progress, factor, amounts and pivots at its end
 pub record SoundEnd (n : ℕ) (r : Progress) (l e : List Float) (p : List ℕ) : Type 0 where
-  pub amounts : r.refused ≡ Never → Amounts n e
-  pub lower : r.refused ≡ Never → LowerFactor n l
-  pub doubles : r.refused ≡ Never → DoublesEnd l e
+  pub amounts : r.refused ≡ None → Amounts n e
+  pub lower : r.refused ≡ None → LowerFactor n l
+  pub doubles : r.refused ≡ None → DoublesEnd l e
   pub permuted : Permuted n p
   pub marks : ProgressBelow n r
   pub count : r.inexact ≤ n

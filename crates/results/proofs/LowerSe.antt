@@ -11,7 +11,7 @@ use Rattle.matrix.specs.declared.utils.Eigen.{Eigen}
 use Rattle.matrix.proofs.EntryLaws.{at_put_other}
 use Rattle.methods.specs.Statements.{pivot_matrix, eliminate, diagonal_max, lower_triangle}
 use Rattle.methods.specs.Se.{Run, start, pivot, factorize, begin, added, phase_two_step_at, pair_of, one_of, add_pair, add_one, add_last, rows_of, last_pair, last_one, run}
-use Rattle.methods.specs.declared.decomposition.Mark.TheVariants.{Never}
+use Rattle.std.specs.Prelude.{None}
 use Rattle.methods.specs.declared.schnabel_eskow.Tolerances.{Tolerances}
 use Rattle.methods.specs.declared.schnabel_eskow.Variant.{Variant}
 use Rattle.methods.specs.declared.schnabel_eskow.Last.{Last}
@@ -26,7 +26,7 @@ use Rattle.results.proofs.LowerTriangle.{triangle_lower}
 
 -- until the run is refused
 abbrev FiniteRun : ℕ → Run → Type 0
-FiniteRun n s = s.progress.refused ≡ Never → FiniteEntries n s.l
+FiniteRun n s = s.progress.refused ≡ None → FiniteEntries n s.l
 
 -- ---- phase one
 kept-one : (v : Variant) (t : Tolerances) (gamma : Float) (n : ℕ) → KeptInPhaseOne v t gamma n (FiniteRun n)
@@ -94,8 +94,8 @@ start-finite : (n : ℕ) (a : List Float) → AcceptedMatrix n a → FiniteRun n
 unfolding start
 start-finite n a A e = record { entries = A.entries; each = A.finite_entries }
 
-finite_se : (v : Variant) (t : Tolerances) (numbers : List ℕ) (n : ℕ) (a : List Float) → AcceptedMatrix n a → (run v t numbers n a).progress.refused ≡ Never → FiniteEntries n (run v t numbers n a).l
+finite_se : (v : Variant) (t : Tolerances) (numbers : List ℕ) (n : ℕ) (a : List Float) → AcceptedMatrix n a → (run v t numbers n a).progress.refused ≡ None → FiniteEntries n (run v t numbers n a).l
 finite_se v t numbers n a A = run-keeps v t numbers n a (FiniteRun n) (FiniteRun n) (kept-one v t (diagonal_max n a) n) (kept-two v t (diagonal_max n a) n) (start-finite n a A)
 
-pub lower-se : (v : Variant) (t : Tolerances) (numbers : List ℕ) (n : ℕ) (a : List Float) → AcceptedMatrix n a → (run v t numbers n a).progress.refused ≡ Never → LowerFactor n (lower_triangle n (run v t numbers n a).l)
+pub lower-se : (v : Variant) (t : Tolerances) (numbers : List ℕ) (n : ℕ) (a : List Float) → AcceptedMatrix n a → (run v t numbers n a).progress.refused ≡ None → LowerFactor n (lower_triangle n (run v t numbers n a).l)
 lower-se v t numbers n a A e = triangle_lower n (run v t numbers n a).l (finite_se v t numbers n a A e)

@@ -10,8 +10,8 @@ use Rattle.matrix.specs.Matrix.{at, zeros}
 use Rattle.matrix.proofs.CellLaws.{cell_lt}
 use Rattle.methods.specs.Result.{filled}
 use Rattle.methods.specs.Statements.{lower_triangle}
-use Rattle.methods.specs.declared.decomposition.Mark.{Mark}
-use Rattle.methods.specs.declared.decomposition.Mark.TheVariants.{Never, Step}
+use Rattle.methods.specs.Marks.{Mark}
+use Rattle.std.specs.Prelude.{None, Some}
 use Rattle.methods.proofs.FiniteEntries.{FiniteEntries, zero_finite, triangle_above, triangle_finite}
 use Rattle.results.specs.Results.{LowerFactor}
 
@@ -32,6 +32,6 @@ zeros-lower n = record {
     here : (x y : ℕ) → x < n → y < n → at n (zeros (n * n)) x y ≡ plus_zero
     here x y px py = get_or-replicate (n * n) (x * n + y) plus_zero nan (cell_lt n x y px py)
 
-pub filled-lower : (m : Mark) (n : ℕ) (l : List Float) → (m ≡ Never → LowerFactor n l) → LowerFactor n (filled m (n * n) l)
-filled-lower Never n l h = h refl
-filled-lower (Step j) n l h = zeros-lower n
+pub filled-lower : (m : Mark) (n : ℕ) (l : List Float) → (m ≡ None → LowerFactor n l) → LowerFactor n (filled m (n * n) l)
+filled-lower None n l h = h refl
+filled-lower (Some j) n l h = zeros-lower n

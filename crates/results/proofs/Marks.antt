@@ -1,20 +1,19 @@
 -- The marks that are handed back are steps, in every run: each change of a run's progress keeps them so, and GMW81's scaling counts as step n.
-use mathlib.Core.Path.{◌≡◌, ap}
+use mathlib.Core.Path.{◌≡◌}
 use mathlib.Core.Bool.{Bool, true, not}
 use mathlib.Core.List.{List}
 use Prim.Native.Nat.{ℕ, ◌+◌, ◌-◌, ◌≤◌, ◌<◌}
 use native.Mathlib.Omega.{arith}
 use lib.Ieee.{Float}
-use Rattle.arithmetic.specs.declared.outcome.Outcome.TheVariants.{StoredNotFinite}
+use Rattle.arithmetic.specs.declared.refusal.Refusal.TheVariants.{StoredNotFinite}
 use Rattle.arithmetic.proofs.Cases.{Is, is, holds, fails}
-use Rattle.methods.specs.Marks.{mark, marked}
+use Rattle.methods.specs.Marks.{mark, marked, Mark}
 use Rattle.methods.specs.Progress.{begun}
 use Rattle.methods.specs.Result.{outcome_of, reported}
 use Rattle.methods.specs.Statements.{diagonal_max}
 use Rattle.methods.specs.Gmw81 as gmw
 use Rattle.methods.specs.Se as se
-use Rattle.methods.specs.declared.decomposition.Mark.{Mark}
-use Rattle.methods.specs.declared.decomposition.Mark.TheVariants.{Never, Step}
+use Rattle.std.specs.Prelude.{None, Some, Err}
 use Rattle.methods.specs.declared.progress.Progress.{Progress}
 use Rattle.methods.specs.declared.schnabel_eskow.Tolerances.{Tolerances}
 use Rattle.methods.specs.declared.schnabel_eskow.Variant.{Variant}
@@ -47,9 +46,9 @@ module _ (n j : ℕ) (b : Bool) {tied phase2 refused : Mark} (S : ThreeBelow n t
   stored-below h = record { tied_below = S.tied_below; phase2_below = S.phase2_below; refused_below = mark-below (n + 1) j refused b (omega arith) S.refused_below }
 
 -- ---- what is handed back
-outcome-step : (m : Mark) (j : ℕ) → outcome_of m ≡ StoredNotFinite j → m ≡ Step j
-outcome-step Never j e = absurd (let z : ◌≡◌ {A = ℕ} 0 1 = cc in omega arith)
-outcome-step (Step k) j e = let z : k ≡ j = cc in ap Step z
+outcome-step : (m : Mark) (j : ℕ) → outcome_of m ≡ Err (StoredNotFinite j) → m ≡ Some j
+outcome-step None j e = cc
+outcome-step (Some k) j e = cc
 
 pub reported-marks : (n : ℕ) (r : Progress) → ProgressBelow n r → MarksBelow n (reported r)
 reported-marks n r S = record { tied_below = S.tied_below; phase2_below = S.phase2_below; refused_below = λ j e. omega (arith, S.refused_below j (outcome-step r.refused j e)) }

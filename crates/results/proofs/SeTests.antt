@@ -14,16 +14,16 @@ use Rattle.matrix.specs.Matrix.{at, put}
 use Rattle.matrix.specs.declared.utils.Eigen.{Eigen}
 use Rattle.methods.specs.Statements.{pivot_matrix, pivot_list, eliminate, block_finite}
 use Rattle.methods.specs.Se.{Run, factorize, begin, bounds, column_sum, amount, added, update_bounds, phase_two_step_at, add_pair, add_one}
-use Rattle.methods.specs.declared.decomposition.Mark.TheVariants.{Never}
+use Rattle.std.specs.Prelude.{None}
 use Rattle.methods.specs.declared.schnabel_eskow.Tolerances.{Tolerances}
 use Rattle.methods.specs.declared.schnabel_eskow.Variant.{Variant}
 use Rattle.methods.proofs.Refused.{NotRefused, goes_on}
 
-pub factorize-never : (n j : ℕ) (s : Run) → (factorize n j s).progress.refused ≡ Never → NotRefused s.progress.refused (block_finite n j (eliminate n j s.l))
+pub factorize-never : (n j : ℕ) (s : Run) → (factorize n j s).progress.refused ≡ None → NotRefused s.progress.refused (block_finite n j (eliminate n j s.l))
 unfolding factorize
 factorize-never n j s e = goes_on s.progress.refused (block_finite n j (eliminate n j s.l)) j e
 
-pub begin-never : (n k : ℕ) (s : Run) → (begin n k s).progress.refused ≡ Never → s.progress.refused ≡ Never
+pub begin-never : (n k : ℕ) (s : Run) → (begin n k s).progress.refused ≡ None → s.progress.refused ≡ None
 unfolding begin
 begin-never n k s e = (goes_on s.progress.refused (all k n (λ i. finite (get_or (bounds n k s.l s.g) i nan))) k e).before
 
@@ -38,11 +38,11 @@ abbrev pub added_at : Variant → Tolerances → Float → ℕ → ℕ → ℕ �
 added_at v t gamma n j k s = put n (pivot_matrix n j k s.l) j j (added (at n (pivot_matrix n j k s.l) j j) (amount_at v t gamma n j k s))
 
 pub record StepTested (v : Variant) (t : Tolerances) (gamma : Float) (n j k : ℕ) (s : Run) : Type 0 where
-  pub before : s.progress.refused ≡ Never
+  pub before : s.progress.refused ≡ None
   pub amount-finite : finite (amount_at v t gamma n j k s) ≡ true
   pub block : block_finite n j (eliminate n j (added_at v t gamma n j k s)) ≡ true
 
-pub step-tested : (v : Variant) (t : Tolerances) (gamma : Float) (n j k : ℕ) (s : Run) → (phase_two_step_at v t gamma n j k s).progress.refused ≡ Never → StepTested v t gamma n j k s
+pub step-tested : (v : Variant) (t : Tolerances) (gamma : Float) (n j k : ℕ) (s : Run) → (phase_two_step_at v t gamma n j k s).progress.refused ≡ None → StepTested v t gamma n j k s
 unfolding phase_two_step_at
 step-tested v t gamma n j k s e =
     let l₂ = added_at v t gamma n j k s in
@@ -68,12 +68,12 @@ abbrev pub one₂ : ℕ → Float → List Float → List Float
 one₂ n ej l = put n (one₁ n ej l) (n - 1) (n - 1) (sqrt (at n (one₁ n ej l) (n - 1) (n - 1)))
 
 pub record OneTested (n : ℕ) (ej : Float) (s : Run) : Type 0 where
-  pub before : s.progress.refused ≡ Never
+  pub before : s.progress.refused ≡ None
   pub amount-finite : finite ej ≡ true
   pub first : finite (at n (one₁ n ej s.l) (n - 1) (n - 1)) ≡ true
   pub second : finite (at n (one₂ n ej s.l) (n - 1) (n - 1)) ≡ true
 
-pub one-tested : (n : ℕ) (ej : Float) (s : Run) → (add_one n ej s).progress.refused ≡ Never → OneTested n ej s
+pub one-tested : (n : ℕ) (ej : Float) (s : Run) → (add_one n ej s).progress.refused ≡ None → OneTested n ej s
 unfolding add_one
 one-tested n ej s e =
     let sum = finite (at n (one₁ n ej s.l) (n - 1) (n - 1)) in
@@ -99,7 +99,7 @@ abbrev pub pair₅ : ℕ → Float → List Float → List Float
 pair₅ n ea l = put n (pair₄ n ea l) (n - 1) (n - 1) (sqrt (at n (pair₄ n ea l) (n - 1) (n - 1) ⊖ square (at n (pair₄ n ea l) (n - 1) (n - 2))))
 
 pub record PairTested (n : ℕ) (ea : Float) (s : Run) : Type 0 where
-  pub before : s.progress.refused ≡ Never
+  pub before : s.progress.refused ≡ None
   pub amount-finite : finite ea ≡ true
   pub first : finite (at n (pair₂ n ea s.l) (n - 2) (n - 2)) ≡ true
   pub second : finite (at n (pair₂ n ea s.l) (n - 1) (n - 1)) ≡ true
@@ -107,7 +107,7 @@ pub record PairTested (n : ℕ) (ea : Float) (s : Run) : Type 0 where
   pub fourth : finite (at n (pair₄ n ea s.l) (n - 1) (n - 2)) ≡ true
   pub fifth : finite (at n (pair₅ n ea s.l) (n - 1) (n - 1)) ≡ true
 
-pub pair_tested : (n : ℕ) (x : Eigen) (ea : Float) (s : Run) → (add_pair n x ea s).progress.refused ≡ Never → PairTested n ea s
+pub pair_tested : (n : ℕ) (x : Eigen) (ea : Float) (s : Run) → (add_pair n x ea s).progress.refused ≡ None → PairTested n ea s
 unfolding add_pair
 pair_tested n x ea s e =
     let eigenvalues = finite x.hi && finite x.lo in

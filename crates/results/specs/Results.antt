@@ -2,7 +2,7 @@
 -- negative, p is a permutation, L is finite with +0.0 above the diagonal, amounts and entries of L are doubles, and every step that is
 -- reported is a step; and every d that GMW81 stored is at least 2^-52. Of document 02's count of inexact roots: at most n, 0 where refused.
 -- Proved as `results`, `counts` (proofs/Theorem.antt) and `d_results` (proofs/BoundsGmw81.antt).
-use Rattle.std.specs.Prelude.{◌≡◌, true, false, List, ℕ, ◌*◌, ◌<◌, ◌≤◌, length, get_or, Float}
+use Rattle.std.specs.Prelude.{◌≡◌, true, false, List, ℕ, ◌*◌, ◌<◌, ◌≤◌, length, get_or, Float, Some, Err}
 use Rattle.std.specs.Float.{nan}
 use Rattle.std.specs.Float.Ieee.{lt}
 use Rattle.std.specs.Float.Ieee.Scale.{finite}
@@ -10,7 +10,7 @@ use Rattle.arithmetic.specs.AtLeast.{AtLeast}
 use Rattle.arithmetic.specs.Double.{plus_zero, epsilon}
 use Rattle.arithmetic.specs.DoubleList.{AllDoubles}
 use Rattle.arithmetic.specs.Outcome.{complete}
-use Rattle.arithmetic.specs.declared.outcome.Outcome.TheVariants.{StoredNotFinite}
+use Rattle.arithmetic.specs.declared.refusal.Refusal.TheVariants.{StoredNotFinite}
 use Rattle.matrix.specs.Matrix.{at}
 use Rattle.methods.specs.AcceptedMatrix.{AcceptedMatrix}
 use Rattle.methods.specs.Reloading.{LoadOrder}
@@ -20,8 +20,7 @@ use Rattle.methods.specs.Gmw81.{run}
 use Rattle.methods.specs.declared.method.Method.{Method}
 use Rattle.methods.specs.declared.schnabel_eskow.Tolerances.{Tolerances}
 use Rattle.methods.specs.declared.decomposition.Decomposition.{Decomposition}
-use Rattle.methods.specs.declared.decomposition.Mark.{Mark}
-use Rattle.methods.specs.declared.decomposition.Mark.TheVariants.{Step}
+use Rattle.methods.specs.Marks.{Mark}
 
 -- e[r] is a finite number that is not negative
 pub record Amounts (n : ℕ) (e : List Float) : Type 0 where
@@ -37,9 +36,9 @@ pub record LowerFactor (n : ℕ) (l : List Float) : Type 0 where
 
 -- every step that is reported is a step: GMW81's scaling counts as step n
 pub record MarksBelow (n : ℕ) (d : Decomposition) : Type 0 where
-  pub tied_below : (j : ℕ) → d.tied ≡ Step j → j < n
-  pub phase2_below : (j : ℕ) → d.phase2 ≡ Step j → j < n
-  pub refused_below : (j : ℕ) → d.outcome ≡ StoredNotFinite j → j ≤ n
+  pub tied_below : (j : ℕ) → d.tied ≡ Some j → j < n
+  pub phase2_below : (j : ℕ) → d.phase2 ≡ Some j → j < n
+  pub refused_below : (j : ℕ) → d.outcome ≡ Err (StoredNotFinite j) → j ≤ n
 
 -- the count of inexact roots
 pub record Count (n : ℕ) (d : Decomposition) : Type 0 where
@@ -64,7 +63,7 @@ ResultsTheorem = (method : Method) (numbers : List ℕ) (n : ℕ) (a : List Floa
 
 -- step j was taken: it is not after the refused step, which stores its values too
 abbrev pub Taken : ℕ → Mark → Type 0
-Taken j refused = (k : ℕ) → refused ≡ Step k → j ≤ k
+Taken j refused = (k : ℕ) → refused ≡ Some k → j ≤ k
 
 -- d[j] of every step that was taken, also in a refused run
 abbrev pub DTheorem : Type 0

@@ -1,5 +1,5 @@
 -- The checks of a solve call pass exactly where its operands are accepted.
-use mathlib.Core.Path.{◌≡◌, refl, ap}
+use mathlib.Core.Path.{◌≡◌, ap}
 use mathlib.Core.Bool.{true, false, not}
 use mathlib.Core.List.{List}
 use Prim.Native.Nat.{ℕ, ◌+◌, ◌*◌, ◌≤◌, ◌<◌}
@@ -10,7 +10,7 @@ use lib.Ieee.{Float, eq}
 use lib.Ieee.Scale.{finite}
 use borrow.Author.Tests.{not-false, leb-false, lt-leb}
 use Rattle.arithmetic.specs.Double.{plus_zero}
-use Rattle.arithmetic.specs.declared.outcome.Outcome.TheVariants.{MatrixLength, BufferLength, IndexOutOfRange, NotFinite, NumberRepeated, ListLength, ZeroDiagonal}
+use Rattle.arithmetic.specs.declared.refusal.Refusal.TheVariants.{MatrixLength, BufferLength, IndexOutOfRange, NotFinite, NumberRepeated, ListLength, ZeroDiagonal}
 use Rattle.arithmetic.proofs.FirstLaws.{first-is, first-none}
 use Rattle.arithmetic.proofs.OrderLaws.{or_1, or_2}
 use Rattle.matrix.specs.Checks.{out_of_range, came_before, first_repeated, not_finite, Distinct}
@@ -25,32 +25,31 @@ use Rattle.solve.specs.Substitution.{length_checks, content_checks}
 module _ (n : ℕ) (p : List ℕ) where
   pub order-accepted : Accepted (check_order n p) → AllBelow n p × Distinct p
   order-accepted h =
-      let good = none_found (wrong_index n p) (length p) (IndexOutOfRange (first_wrong n p)) refl h in (
+      let good = none_found (wrong_index n p) (length p) (IndexOutOfRange (first_wrong n p)) h in (
         λ k q. leb-false n (get_or p k 0) (or_1 (out_of_range n p k) (came_before p k) (good k q)),
         distinct-accepted p (none_passes (came_before p) (length p) (NumberRepeated (first_repeated p)) (λ k q. or_2 (out_of_range n p k) (came_before p k) (good k q))),
       )
 
   pub order-passes : AllBelow n p → Distinct p → Accepted (check_order n p)
   order-passes B D =
-      let once = none_found (came_before p) (length p) (NumberRepeated (first_repeated p)) refl (distinct-passes p D) in
+      let once = none_found (came_before p) (length p) (NumberRepeated (first_repeated p)) (distinct-passes p D) in
       none_passes (wrong_index n p) (length p) (IndexOutOfRange (first_wrong n p)) (λ k q. rw (lt-leb n (get_or p k 0) (B k q), once k q))
 
 module _ (n : ℕ) (l : List Float) where
   pub lower-accepted : Accepted (check_lower n l) → (i j : ℕ) → i < n → j ≤ i → finite (at n l i j) ≡ true
   lower-accepted h i j p q =
-      let row : leb (first_in_row n l i) i ≡ false = none_found (λ i. leb (first_in_row n l i) i) n _ refl h i p in
+      let row : leb (first_in_row n l i) i ≡ false = none_found (λ i. leb (first_in_row n l i) i) n _ h i p in
       not-false (finite (at n l i j)) ((first-is (λ j. not (finite (at n l i j))) (i + 1)).good j (omega arith) (omega (arith, leb-false (first_in_row n l i) i row)))
 
   lower-passes : ((i j : ℕ) → i < n → j ≤ i → finite (at n l i j) ≡ true) → Accepted (check_lower n l)
   lower-passes f = none_passes (λ i. leb (first_in_row n l i) i) n _ (λ i p. lt-leb (first_in_row n l i) i (omega (arith, first-none (λ j. not (finite (at n l i j))) (i + 1) (λ j q. ap not (f i j p (omega arith))))))
 
   divisors-accepted : Accepted (check_divisors n l) → (i : ℕ) → i < n → eq (at n l i i) plus_zero ≡ false
-  divisors-accepted h = none_found (λ i. eq (at n l i i) plus_zero) n (ZeroDiagonal (first_zero n l)) refl h
+  divisors-accepted h = none_found (λ i. eq (at n l i i) plus_zero) n (ZeroDiagonal (first_zero n l)) h
 
 -- ---- both directions
 module _ (n : ℕ) (l : List Float) (y : ℕ) (p : List ℕ) (b : List Float) where
   passed : Accepted (length_checks n (length l) y (length p) (length b)) → Accepted (content_checks n l p b) → AcceptedSolve n l y p b
-  unfolding length_checks content_checks
   passed h k =
       let h₄ = both_accepted _ _ h in
       let h₃ = both_accepted _ _ h₄.0 in
@@ -77,14 +76,12 @@ module _ (n : ℕ) (l : List Float) (y : ℕ) (p : List ℕ) (b : List Float) wh
       }
 
   lengths_pass : AcceptedSolve n l y p b → Accepted (length_checks n (length l) y (length p) (length b))
-  unfolding length_checks
   lengths_pass A =
       let sized = then_accepted (size_passes n A.rows_from A.rows_to) (length-passes (n * n) (length l) MatrixLength A.l_is) in
       let lent = then_accepted sized (length-passes n y BufferLength A.y_is) in
       then_accepted (then_accepted lent (length-passes n (length p) ListLength A.p_is)) (length-passes n (length b) ListLength A.b_is)
 
   contents_pass : AcceptedSolve n l y p b → Accepted (content_checks n l p b)
-  unfolding content_checks
   contents_pass A =
       let right = none_passes (not_finite b) (length b) (NotFinite _ _) (λ k q. ap not (A.right k (omega (arith, A.b_is)))) in
       let lower = then_accepted (order-passes n p A.below A.once) (lower-passes n l A.lower) in

@@ -7,7 +7,7 @@ use native.Mathlib.Omega.{arith}
 use lib.Ieee.{Float}
 use lib.Ieee.Scale.{finite}
 use Rattle.arithmetic.specs.Outcome.{complete, refuse}
-use Rattle.arithmetic.specs.declared.outcome.Outcome.TheVariants.{StoredNotFinite}
+use Rattle.arithmetic.specs.declared.refusal.Refusal.TheVariants.{StoredNotFinite}
 use Rattle.arithmetic.proofs.LoopLaws.{range-ind}
 use Rattle.solve.specs.Accepted.{Ended, SolveEndsTheorem}
 use Rattle.solve.specs.Accepted.Ended.{whole, refused_row}

@@ -2,10 +2,9 @@
 use mathlib.Core.Path.{refl}
 use lib.Ieee.{add, sub, mul, div, lt, eq, of_bits}
 use Rattle.arithmetic.specs.First.{first_from}
-use Rattle.arithmetic.specs.Outcome.{◌then◌}
-use Rattle.solve.specs.Substitution.{solve_call}
+use Rattle.solve.specs.Substitution.{solve}
 use Rattle.solve.specs.Example.{AllSolve, cases}
 
 pub examples : AllSolve cases
-unfolding solve_call add sub mul div lt eq of_bits first_from ◌then◌
+unfolding solve add sub mul div lt eq of_bits first_from
 examples = (refl, (refl, (refl, (refl, (refl, (refl, (refl, (refl, (refl, (refl, (refl, tt)))))))))))

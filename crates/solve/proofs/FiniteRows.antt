@@ -16,7 +16,7 @@ use borrow.Author.Tests.{not-false}
 use Rattle.arithmetic.specs.Double.{plus_zero}
 use Rattle.arithmetic.specs.DoubleList.{AllDoubles}
 use Rattle.arithmetic.specs.Outcome.{complete}
-use Rattle.arithmetic.specs.declared.outcome.Outcome.TheVariants.{StoredNotFinite}
+use Rattle.arithmetic.specs.declared.refusal.Refusal.TheVariants.{StoredNotFinite}
 use Rattle.arithmetic.proofs.LoopLaws.{range-ind}
 use Rattle.arithmetic.proofs.OutcomeLaws.{refuse-complete}
 use Rattle.matrix.specs.Matrix.{zeros}
@@ -57,7 +57,7 @@ row_finite : (n t : ℕ) (v : Float) (s : Rows) → T (fits binary64 v) → Fini
 row_finite n t v s d F = go (complete s.outcome) refl
   where
     go : (b : Bool) → complete s.outcome ≡ b → FiniteRows n (cond b (store t v s.values) s)
-    go true e h = set-finite n s.values t v (not-false (finite v) (refuse-complete (not (finite v)) (StoredNotFinite t) refl h)) d (F e)
+    go true e h = set-finite n s.values t v (not-false (finite v) (refuse-complete (not (finite v)) (StoredNotFinite t) h)) d (F e)
     go false e h = F h
 
 forward-finite : (n : ℕ) (l : List Float) (p : List ℕ) (b : List Float) → FiniteRows n (forward n l p b)

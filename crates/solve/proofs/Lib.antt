@@ -1,4 +1,5 @@
 pub mod Example
+pub mod LowerRow
 pub mod SolveLaws
 pub mod LowerPart
 pub mod FiniteRows

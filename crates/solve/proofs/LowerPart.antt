@@ -16,7 +16,7 @@ use Rattle.arithmetic.proofs.LoopLaws.{same-loops}
 use Rattle.matrix.specs.Matrix.{at}
 use Rattle.solve.specs.Checks.{check_lower, check_divisors, first_in_row, first_row}
 use Rattle.solve.specs.LowerPart.{SameLower, LowerPartTheorem}
-use Rattle.solve.specs.Substitution.{Rows, forward_sum, forward_row, forward, backward_sum, backward_row, backward, solve, content_checks, solve_call}
+use Rattle.solve.specs.Substitution.{Rows, forward_sum, forward_row, forward, backward_sum, backward_row, backward, solve, content_checks}
 
 module _ (n : ℕ) (l l' : List Float) (S : SameLower n l l') where
   -- ---- the checks
@@ -36,7 +36,6 @@ module _ (n : ℕ) (l l' : List Float) (S : SameLower n l l') where
   ]
 
   pub content-lower : (p : List ℕ) (b : List Float) → content_checks n l p b ≡ content_checks n l' p b
-  unfolding content_checks
   content-lower p b = rw (check_same, divisors-lower)
 
   -- ---- the steps
@@ -63,5 +62,4 @@ module _ (n : ℕ) (l l' : List Float) (S : SameLower n l l') where
   solve-lower p b = rw (forward-same p b, backward-same (forward n l' p b))
 
 pub lower-part : LowerPartTheorem
-unfolding solve_call
 lower-part n l l' p b y S = rw (S.len, content-lower n l l' S p b, solve-lower n l l' S p b)

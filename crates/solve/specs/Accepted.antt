@@ -6,8 +6,9 @@ use Rattle.std.specs.Float.Ieee.{eq}
 use Rattle.std.specs.Float.Ieee.Scale.{finite}
 use Rattle.arithmetic.specs.Double.{plus_zero}
 use Rattle.arithmetic.specs.Outcome.{complete}
-use Rattle.arithmetic.specs.declared.outcome.Outcome.{Outcome}
-use Rattle.arithmetic.specs.declared.outcome.Outcome.TheVariants.{Complete, StoredNotFinite}
+use Rattle.arithmetic.specs.Outcome.{Outcome}
+use Rattle.std.specs.Prelude.{Ok, Err}
+use Rattle.arithmetic.specs.declared.refusal.Refusal.TheVariants.{StoredNotFinite}
 use Rattle.matrix.specs.Checks.{Distinct}
 use Rattle.matrix.specs.Matrix.{at}
 use Rattle.matrix.specs.Plain.{AllBelow}
@@ -34,8 +35,8 @@ SolveAcceptedTheorem =
 
 -- ---- what passes is complete, or refused 9 at one of its rows. Proved as `solve-ends` in proofs/Ends.antt.
 pub data Ended (n : ℕ) (o : Outcome) : Type 0 where
-  whole : o ≡ Complete → Ended n o
-  refused_row : (t : ℕ) → t < n → o ≡ StoredNotFinite t → Ended n o
+  whole : o ≡ Ok tt → Ended n o
+  refused_row : (t : ℕ) → t < n → o ≡ Err (StoredNotFinite t) → Ended n o
 
 abbrev pub SolveEndsTheorem : Type 0
 SolveEndsTheorem = (n : ℕ) (l : List Float) (p : List ℕ) (b : List Float) → Ended n (solve n l p b).outcome

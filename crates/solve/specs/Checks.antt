@@ -5,8 +5,8 @@ use Rattle.std.specs.Float.Ieee.Scale.{finite}
 use Rattle.arithmetic.specs.Double.{plus_zero}
 use Rattle.arithmetic.specs.First.{first}
 use Rattle.arithmetic.specs.Outcome.{refuse}
-use Rattle.arithmetic.specs.declared.outcome.Outcome.{Outcome}
-use Rattle.arithmetic.specs.declared.outcome.Outcome.TheVariants.{IndexOutOfRange, NotFinite, ZeroDiagonal}
+use Rattle.arithmetic.specs.Outcome.{Outcome}
+use Rattle.arithmetic.specs.declared.refusal.Refusal.TheVariants.{IndexOutOfRange, NotFinite, ZeroDiagonal}
 use Rattle.matrix.specs.Matrix.{at}
 use Rattle.matrix.specs.Checks.{out_of_range, came_before}
 

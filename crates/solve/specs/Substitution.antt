@@ -6,8 +6,9 @@ use Rattle.std.specs.Float.Ieee.Scale.{finite}
 use Rattle.arithmetic.specs.Double.{plus_zero, ◌⊕◌, ◌⊖◌, ◌⊗◌, ◌⊘◌}
 use Rattle.arithmetic.specs.Loop.{range}
 use Rattle.arithmetic.specs.Outcome.{complete, refuse, ◌then◌}
-use Rattle.arithmetic.specs.declared.outcome.Outcome.{Outcome}
-use Rattle.arithmetic.specs.declared.outcome.Outcome.TheVariants.{Complete, StoredNotFinite}
+use Rattle.arithmetic.specs.Outcome.{Outcome}
+use Rattle.std.specs.Prelude.{Ok}
+use Rattle.arithmetic.specs.declared.refusal.Refusal.TheVariants.{StoredNotFinite}
 use Rattle.matrix.specs.Matrix.{at, zeros, Square}
 use Rattle.matrix.specs.Checks.{check_size, check_matrix, check_buffer, check_finite, check_list}
 use Rattle.matrix.specs.Plain.{AllBelow}
@@ -20,6 +21,10 @@ pub record Rows : Type 0 where
 
 abbrev pub solved_rows : Outcome → List Float → Rows
 solved_rows outcome values = record { outcome = outcome; values = values }
+
+-- .. where none was refused
+abbrev pub solved : List Float → Rows
+solved values = solved_rows (Ok tt) values
 
 -- row t becomes v: a value that isn't finite is 9 at that row
 abbrev pub store : ℕ → Float → List Float → Rows
@@ -42,7 +47,7 @@ forward_row n l p b t s = cond (complete s.outcome) (store t (forward_value n l 
 
 unfoldable pub forward : ℕ → List Float → List ℕ → List Float → Rows
 unfolding range forward_row
-forward n l p b = range 0 n (forward_row n l p b) (solved_rows Complete (zeros n))
+forward n l p b = range 0 n (forward_row n l p b) (solved (zeros n))
 
 -- ---- backward, from row n - 1 up: w[t] = (z[t] - sum) / L(t, t). One list holds both: w behind row t, z up to it.
 
@@ -84,19 +89,18 @@ unfolding forward backward put_back
 solve n l p b = answer_of n p (backward n l (forward n l p b))
 
 -- 3, 4, 5, 14, on the lengths of L, y, p and b
-unfoldable pub length_checks : ℕ → ℕ → ℕ → ℕ → ℕ → Outcome
+abbrev pub length_checks : ℕ → ℕ → ℕ → ℕ → ℕ → Outcome
 length_checks n l y p b = check_size n then check_matrix n l then check_buffer n y then check_list n p then check_list n b
 
 -- 6, 7 (L's lower part, then b), 15
-unfoldable pub content_checks : ℕ → List Float → List ℕ → List Float → Outcome
+abbrev pub content_checks : ℕ → List Float → List ℕ → List Float → Outcome
 content_checks n l p b = check_order n p then check_lower n l then check_finite 1 b then check_divisors n l
 
 abbrev pub solve_checks : ℕ → List Float → ℕ → List ℕ → List Float → Outcome
 solve_checks n l y p b = length_checks n (length l) y (length p) (length b) then content_checks n l p b
 
 -- refused before the first row: y untouched
-unfoldable pub solve_call : ℕ → List Float → List ℕ → List Float → List Float → SolveCall
-unfolding length_checks content_checks solve
+abbrev pub solve_call : ℕ → List Float → List ℕ → List Float → List Float → SolveCall
 solve_call n l p b y =
     let checks = solve_checks n l (length y) p b in
     cond (complete checks) (solve n l p b) (solve_call_of checks y)

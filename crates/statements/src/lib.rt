@@ -1,9 +1,8 @@
 // Statements that the methods share.
 #![tactic(auto)]
 
-ghost use Rattle.std.specs.Prelude.{◌≡◌, cond, ◌&&◌, ℕ, ◌+◌, ◌-◌, ◌*◌, ◌<◌, ◌≤◌, length, get_or, ltb};
+ghost use Rattle.std.specs.Prelude.{◌≡◌, cond, ◌&&◌, ℕ, ◌+◌, ◌<◌, ◌≤◌, length, get_or, ltb};
 ghost use Rattle.std.specs.Float.{nan};
-ghost use Rattle.std.specs.Float.Ieee.Scale.{finite};
 ghost use Rattle.arithmetic.specs.Double.{◌⊘◌};
 ghost use Rattle.arithmetic.specs.Sqrt.{inexact};
 ghost use Rattle.matrix.specs.Matrix.{Square, at};
@@ -22,6 +21,7 @@ use methods::progress::{Stores, one_if};
 
 // ---- folds
 
+#[tactic(auto, unfolding(methods::specs::Statements::larger_magnitude))]
 pub fn larger_magnitude(acc: f64, x: f64) -> f64
     ensures { result ≡ larger_magnitude acc x }
 {
@@ -43,29 +43,30 @@ pub fn diagonal_max(m: &[f64], n: usize) -> f64
 // ---- the pivot search
 
 // 0 where the contract has none.
-fn number_at(numbers: &[u32], p: &[usize], t: usize) -> u32
+pub fn number_at(numbers: &[u32], p: &[usize], t: usize) -> u32
     requires { t < length p.now }
     ensures { result ≡ number_at numbers.now p.now t }
 {
-    let row = p[t];
-    if row < numbers.len() {
-        return numbers[row];
-    }
-    0
+    numbers.get(p[t]).copied().unwrap_or(0)
 }
 
 // i where it is tied and its number is smaller than that of the best so far, else the best. Candidates count from j.
-fn look_number(numbers: &[u32], p: &[usize], j: usize, tied: bool, i: usize, best: usize) -> usize
+pub fn look_number(
+    numbers: &[u32],
+    p: &[usize],
+    j: usize,
+    tied: bool,
+    i: usize,
+    best: usize,
+) -> usize
     requires { (j + i < length p.now) × (j + best < length p.now) }
     ensures { result ≡ cond (tied && ltb (number_at numbers.now p.now (j + i)) (number_at numbers.now p.now (j + best))) i best }
 {
-    if !tied {
-        return best;
+    if tied && number_at(numbers, p, j + i) < number_at(numbers, p, j + best) {
+        i
+    } else {
+        best
     }
-    if number_at(numbers, p, j + i) < number_at(numbers, p, j + best) {
-        return i;
-    }
-    best
 }
 
 // Of the candidates tied with the first of the largest, the one with the smallest number. Candidate i stands at position j + i.
@@ -82,9 +83,8 @@ fn smallest_number(
 {
     let largest = utils::key(magnitude, c[first]);
     let mut best = first;
-    let n = c.len();
-    for i in 0..n {
-        let tied = largest == utils::key(magnitude, c[i]);
+    for (i, x) in c.iter().enumerate() {
+        let tied = largest == utils::key(magnitude, *x);
         best = look_number(numbers, p, j, tied, i, best);
     }
     best
@@ -96,13 +96,12 @@ pub fn pick(numbers: &[u32], p: &[usize], magnitude: bool, values: &[f64], j: us
     ensures { result ≡ pick numbers.now p.now magnitude values.now j }
 {
     let found = utils::largest(magnitude, &values[j..]);
-    if numbers.len() == 0 {
+    if numbers.is_empty() {
         return found;
     }
-    let index = smallest_number(numbers, p, j, magnitude, &values[j..], found.index);
     Found {
-        index,
-        tied: found.tied,
+        index: smallest_number(numbers, p, j, magnitude, &values[j..], found.index),
+        ..found
     }
 }
 
@@ -137,6 +136,7 @@ pub fn search_diagonal(
 
 // ---- pivots: nothing where max_idx is 0
 
+#[tactic(auto, unfolding(methods::specs::Statements::pivot_matrix))]
 pub fn pivot_matrix(m: &mut [f64], n: usize, j: usize, max_idx: usize)
     requires square { Square n m.old }
     requires max_idx_bound { j + max_idx < n }
@@ -149,24 +149,14 @@ pub fn pivot_matrix(m: &mut [f64], n: usize, j: usize, max_idx: usize)
     }
 }
 
-pub fn pivot_order(p: &mut [usize], j: usize, max_idx: usize)
-    requires { j + max_idx < length p.old }
-    ensures { p.new ≡ pivot_list 0 j max_idx p.old }
+// In a list, whatever d a read past its end would give.
+#[tactic(auto, unfolding(methods::specs::Statements::pivot_list))]
+pub fn pivot_list<T>(xs: &mut [T], j: usize, max_idx: usize)
+    requires { j + max_idx < length xs.old }
+    ensures { (d : T) → xs.new ≡ pivot_list d j max_idx xs.old }
 {
     if max_idx != 0 {
-        let q = j + max_idx;
-        let t = p[j];
-        p[j] = p[q];
-        p[q] = t;
-    }
-}
-
-pub fn pivot_list(g: &mut [f64], j: usize, max_idx: usize)
-    requires { j + max_idx < length g.old }
-    ensures { g.new ≡ pivot_list nan j max_idx g.old }
-{
-    if max_idx != 0 {
-        utils::swap(g, j, j + max_idx);
+        xs.swap(j, j + max_idx);
     }
 }
 
@@ -189,8 +179,7 @@ fn swap_between(l: &mut [f64], n: usize, j: usize, q: usize)
     requires j_lt_q { (j < q) × (q < n) }
     ensures { l.new ≡ swap_between n j q l.old }
 {
-    let a = j + 1;
-    for k in a..q {
+    for k in j + 1..q {
         utils::swap(l, cell(n, k, j), cell(n, q, k));
     }
 }
@@ -201,8 +190,7 @@ fn swap_below(l: &mut [f64], n: usize, j: usize, q: usize)
     requires j_lt_q { (j < q) × (q < n) }
     ensures { l.new ≡ swap_below n j q l.old }
 {
-    let a = q + 1;
-    for k in a..n {
+    for k in q + 1..n {
         utils::swap(l, cell(n, k, j), cell(n, k, q));
     }
 }
@@ -231,13 +219,12 @@ fn divide_column(l: &mut [f64], n: usize, j: usize, r: f64, column: &mut [f64]) 
     ensures { ColumnWritten n j (j + 1) (λ x. at n l.old x j ⊘ r) l.old n l.new result × ((x : ℕ) → j + 1 ≤ x → x < n → get_or column.new x nan ≡ at n l.old x j ⊘ r) }
 {
     let mut ok = true;
-    let a = j + 1;
-    for i in a..n {
+    for i in j + 1..n {
         let ij = cell(n, i, j);
         let v = l[ij] / r;
         l[ij] = v;
         column[i] = v;
-        ok = both(ok, finite(v));
+        ok &= finite(v);
     }
     ok
 }
@@ -250,13 +237,11 @@ fn subtract_multiple(l: &mut [f64], n: usize, j: usize, i: usize, column: &[f64]
 {
     let mut ok = true;
     let x = column[i];
-    let a = j + 1;
-    let b = i + 1;
-    for k in a..b {
+    for k in j + 1..i + 1 {
         let ik = cell(n, i, k);
         let v = l[ik] - x * column[k];
         l[ik] = v;
-        ok = both(ok, finite(v));
+        ok &= finite(v);
     }
     ok
 }
@@ -268,9 +253,8 @@ fn eliminate_rows(l: &mut [f64], n: usize, j: usize, column: &[f64]) -> bool
     ensures { RowsEliminated n j column.now l.old n l.new result }
 {
     let mut ok = true;
-    let a = j + 1;
-    for i in a..n {
-        ok = both(ok, subtract_multiple(l, n, j, i, column));
+    for i in j + 1..n {
+        ok &= subtract_multiple(l, n, j, i, column);
     }
     ok
 }
@@ -288,7 +272,7 @@ pub fn eliminate(l: &mut [f64], n: usize, j: usize) -> Stores
     let divided = divide_column(l, n, j, root.value, &mut column);
     let rows = eliminate_rows(l, n, j, &column);
     Stores {
-        ok: both(both(finite(root.value), divided), rows),
+        ok: finite(root.value) & divided & rows,
         inexact: one_if(root.inexact),
     }
 }
@@ -300,8 +284,7 @@ fn clear_after(l: &mut [f64], n: usize, i: usize)
     requires i_lt_n { i < n }
     ensures { l.new ≡ clear_after n i l.old }
 {
-    let a = i + 1;
-    for k in a..n {
+    for k in i + 1..n {
         put(l, n, i, k, 0.0);
     }
 }
@@ -312,30 +295,8 @@ pub fn lower_triangle(l: &mut [f64], n: usize)
     requires n_nonzero { 0 < n }
     ensures { l.new ≡ lower_triangle n l.old }
 {
-    let b = n - 1;
-    for i in 0..b {
+    for i in 0..n - 1 {
         clear_after(l, n, i);
-    }
-}
-
-pub fn copy(from: &[f64], to: &mut [f64])
-    requires { length from.now ≡ length to.old }
-    ensures { to.new ≡ from.now }
-{
-    let n = from.len();
-    for i in 0..n {
-        to[i] = from[i];
-    }
-}
-
-fn reorder_from(p: &[usize], ec: &[f64], e: &mut [f64], n: usize)
-    requires p_len { (length p.now ≡ n) × (length ec.now ≡ n) × (length e.old ≡ n) }
-    requires ec_value { ec.now ≡ e.old }
-    requires all_below { AllBelow n p.now }
-    ensures { e.new ≡ reorder n p.now e.old }
-{
-    for i in 0..n {
-        e[p[i]] = ec[i];
     }
 }
 
@@ -345,24 +306,17 @@ pub fn reorder(p: &[usize], e: &mut [f64], ec: &mut [f64], n: usize)
     requires all_below { AllBelow n p.now }
     ensures { e.new ≡ reorder n p.now e.old }
 {
-    copy(e, ec);
-    reorder_from(p, ec, e, n);
+    ec.copy_from_slice(e);
+    for (i, row) in p.iter().enumerate() {
+        e[*row] = ec[i];
+    }
 }
 
 // 0 to n - 1.
 pub fn count_up(p: &mut [usize])
     ensures { p.new ≡ identity (length p.old) }
 {
-    let n = p.len();
-    for i in 0..n {
-        p[i] = i;
+    for (i, x) in p.iter_mut().enumerate() {
+        *x = i;
     }
-}
-
-// ---- whether stored values are finite
-
-pub fn both(a: bool, b: bool) -> bool
-    ensures { result ≡ (a && b) }
-{
-    if a { b } else { false }
 }

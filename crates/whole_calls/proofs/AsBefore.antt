@@ -8,8 +8,8 @@ use lib.ListN.{length, get_or}
 use lib.Dec.{eqb}
 use borrow.Author.Tests.{ne_eqb, le-ltb}
 use Rattle.arithmetic.specs.Loop.{range, times}
-use Rattle.arithmetic.specs.Outcome.{complete, ◌then◌}
-use Rattle.arithmetic.specs.declared.outcome.Outcome.{Outcome}
+use Rattle.std.specs.Prelude.{Ok, Err, Option, None}
+use Rattle.arithmetic.specs.Outcome.{complete, ◌then◌, Outcome}
 use Rattle.arithmetic.proofs.Cases.{is, holds, fails}
 use Rattle.matrix.specs.Checks.{check_size, check_symmetric}
 use Rattle.matrix.proofs.CheckLaws.{Accepted, both_accepted}
@@ -18,14 +18,14 @@ use Rattle.encoding.specs.Bytes.{numbers}
 use Rattle.encoding.specs.Checks.{check_entries}
 use Rattle.encoding.proofs.ContractNumbers.{numbers-none}
 use Rattle.answer_record.specs.AnswerRecord.{longest_answer}
-use Rattle.record.specs.Cursor.{nothing_due, noted, part_at, cut, content_at, pass_field, walk, walk_start}
-use Rattle.record.specs.MatrixRecord.{request, contracts_of, entries_of, numbers_of, matrix_of, longest_record, check_record, request_checks, byte_checks, record_checks}
+use Rattle.record.specs.Cursor.{nothing_due, noted, part_at, cut, content_at, optional_content, pass_field, walk, walk_start}
+use Rattle.record.specs.MatrixRecord.{request, contracts_of, entries_of, numbers_of, matrix_of, longest_record, check_record, request_checks, record_checks}
 use Rattle.record.specs.Record.{result_of, answer, record_call}
 use Rattle.record.specs.declared.cursor.Cursor.{Cursor}
 use Rattle.record.specs.declared.cursor.Part.{Part}
 use Rattle.record.specs.declared.cursor.Stage.TheVariants.{MethodDue, NumbersOrEntriesDue, EntriesDue, Done, PastEnd}
 use Rattle.record.specs.declared.read.Request.{Request}
-use Rattle.record.proofs.Walk.{step-stops, step-passes, walk_none}
+use Rattle.record.proofs.Walk.{step-stops, step-passes}
 use Rattle.whole_calls.specs.BrokenRecords.{tag_at, checks_of_content, content_result}
 use Rattle.whole_calls.specs.AsBefore.{after_before, pass_before, walk_before, request_before, entries_before, form_before, checks_before, result_before, AsBeforeTheorem}
 use Rattle.whole_calls.proofs.Reading.{then_nothing}
@@ -120,13 +120,13 @@ module _ (b : List ℕ) where
 
 -- ---- the checks
 then_assoc : (o p q : Outcome) → (o then p then q) ≡ (o then (p then q))
-unfolding ◌then◌
-then_assoc o p q = elim (is (complete o)) [ holds e ↦ rw e | fails e ↦ rw (e, e) ]
+then_assoc (Ok _) p q = refl
+then_assoc (Err r) p q = refl
 
 -- what is checked after a form that passes
 same_after : (o p q : Outcome) → (Accepted o → p ≡ q) → (o then p) ≡ (o then q)
-unfolding ◌then◌
-same_after o p q f = elim (is (complete o)) [ holds e ↦ rw (e, f (record { is = e })) | fails e ↦ rw e ]
+same_after (Ok _) p q f = f (record { is = refl })
+same_after (Err r) p q f = refl
 
 module _ (b : List ℕ) (h : length b ≤ 18443) (other : tag_at b 2 ≡ 0x04 → ⊥) where
   abbrev form : Outcome
@@ -137,21 +137,20 @@ module _ (b : List ℕ) (h : length b ≤ 18443) (other : tag_at b 2 ≡ 0x04 �
   request-same = rw (walk_same b other)
 
   -- a record whose form passes has no field 04
-  unnumbered : Accepted form → (request b).numbered ≡ false
+  unnumbered : Accepted form → (request b).numbers ≡ None
   unfolding request
   unnumbered A = let W = accepted_whole b A in go W.first W.second W.rest
     where
-      go : Passed b 0 walk_start 0x01 MethodDue → Passed b 1 (one b) 0x02 NumbersOrEntriesDue → Rest b → (walk b).parts.numbered ≡ false
-      go F S (entries-alone D) = ap (λ (c : Cursor). c.parts.numbered) (stops_three b (ap (λ (c : Cursor). nothing_due c.stage) D.leads) ∙ D.leads)
-          ∙ ap (λ (c : Cursor). c.parts.numbered) S.leads ∙ ap (λ (c : Cursor). c.parts.numbered) F.leads
+      go : Passed b 0 walk_start 0x01 MethodDue → Passed b 1 (one b) 0x02 NumbersOrEntriesDue → Rest b → (walk b).parts.numbers ≡ None
+      go F S (entries-alone D) = ap (λ (c : Cursor). c.parts.numbers) (stops_three b (ap (λ (c : Cursor). nothing_due c.stage) D.leads) ∙ D.leads)
+          ∙ ap (λ (c : Cursor). c.parts.numbers) S.leads ∙ ap (λ (c : Cursor). c.parts.numbers) F.leads
       go F S (numbers-first N D) = absurd (other (ap (λ (at : ℕ). get_or b at 0) (sym (third_starts b F S)) ∙ N.tagged))
 
   without_numbers : Accepted form → numbers_of b ≡ []
   unfolding request
-  without_numbers A = ap (λ (p : Part). numbers (content_at b p)) (walk_none b (unnumbered A)) ∙ numbers-none
+  without_numbers A = ap (λ (p : Option Part). numbers (optional_content b p)) (unnumbered A) ∙ numbers-none
 
   form_same : form_before b ≡ form
-  unfolding check_record
   form_same = rw (walk_same b other, le-ltb 18443 (length b) h, le-ltb longest_record (length b) (omega (arith, h)))
 
   -- where the form is refused, and where it passes
@@ -164,18 +163,15 @@ module _ (b : List ℕ) (h : length b ≤ 18443) (other : tag_at b 2 ≡ 0x04 �
       ∙ ap (λ (r : Request). form then checks_of_content r.size r.method (content_at b r.entries) room) request-same
 
   content-is : (room : ℕ) → Accepted form → (request_checks (request b) room (contracts_of b) (entries_of b) then check_symmetric (request b).size (matrix_of b)) ≡ content room
-  unfolding request_checks
   content-is room A = rw (unnumbered A, then_nothing (check_method (request b).method then check_size (request b).size then check_entries (request b).size (length (entries_of b))))
 
   checks-same : (room : ℕ) → record_checks b room ≡ checks_before b room
-  unfolding record_checks byte_checks
   checks-same room =
       let rest = request_checks (request b) room (contracts_of b) (entries_of b) in
       let last = check_symmetric (request b).size (matrix_of b) in
       then_assoc form rest last ∙ same_after form (rest then last) (content room) (content-is room) ∙ sym (before_is room)
 
   form_passed : (room : ℕ) → Accepted (record_checks b room) → Accepted form
-  unfolding record_checks byte_checks
   form_passed room A = (both_accepted _ _ (both_accepted _ _ A).0).0
 
   result-before : result_before b ≡ content_result (record_checks b longest_answer) (request b).size (request b).method [] (entries_of b)

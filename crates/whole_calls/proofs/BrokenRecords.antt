@@ -8,16 +8,17 @@ use native.Mathlib.Decide.{dec_lt}
 use native.Mathlib.Omega.{arith}
 use lib.ListN.{length}
 use lib.Dec.{eqb}
-use borrow.Author.Tests.{not-true, eq-eqb, lt-ltb, le-ltb, eqb-true, eqb-false}
-use Rattle.arithmetic.specs.Outcome.{number, place, complete, ◌then◌}
-use Rattle.arithmetic.specs.declared.outcome.Outcome.{Outcome}
-use Rattle.arithmetic.specs.declared.outcome.Outcome.TheVariants.{Complete, MalformedRecord, FieldPastEnd, TagNotDue}
+use borrow.Author.Tests.{not-true, eq-eqb, lt-ltb, le-ltb, eqb-true}
+use Rattle.arithmetic.specs.Outcome.{number, complete, ◌then◌, Outcome}
+use Rattle.std.specs.Prelude.{Ok, Err}
+use Rattle.arithmetic.specs.declared.refusal.Refusal.{Refusal}
+use Rattle.arithmetic.specs.declared.refusal.Refusal.TheVariants.{MalformedRecord, FieldPastEnd, TagNotDue}
 use Rattle.arithmetic.proofs.OrderLaws.{and_1, and_2}
 use Rattle.arithmetic.proofs.Cases.{is, holds, fails}
 use Rattle.matrix.proofs.CheckLaws.{Accepted}
 use Rattle.answer_record.specs.AnswerRecord.{longest_answer}
 use Rattle.record.specs.Cursor.{walk}
-use Rattle.record.specs.MatrixRecord.{request, contracts_of, entries_of, longest_record, check_walk, exact, check_exact, check_record, byte_checks, record_checks}
+use Rattle.record.specs.MatrixRecord.{request, numbered, contracts_of, entries_of, longest_record, check_walk, exact, check_exact, check_record, record_checks}
 use Rattle.encoding.specs.Writing.{over}
 use Rattle.record.specs.Record.{result_of, answer, RecordCall, record_call_of, record_call}
 use Rattle.whole_calls.specs.BrokenRecords.{length_at, field_start, fields_due, Stands, Reached, PastEndAt, WrongTagAt, AllStand, RightLengths, Malformed, handed_back, is_broken, own_record, BrokenRecordsTheorem}
@@ -57,23 +58,20 @@ abbrev verdict : List ℕ → Outcome
 verdict b = check_record (length b) (walk b)
 
 data Judged (b : List ℕ) (o : Outcome) : Type 0 where
-  malformed : Malformed b → o ≡ MalformedRecord → Judged b o
-  cut_at : (i : ℕ) → length b ≤ longest_record → PastEndAt b i → o ≡ FieldPastEnd i → Judged b o
-  tag_at : (i : ℕ) → length b ≤ longest_record → WrongTagAt b i → o ≡ TagNotDue i → Judged b o
+  malformed : Malformed b → o ≡ Err MalformedRecord → Judged b o
+  cut_at : (i : ℕ) → length b ≤ longest_record → PastEndAt b i → o ≡ Err (FieldPastEnd i) → Judged b o
+  tag_at : (i : ℕ) → length b ≤ longest_record → WrongTagAt b i → o ≡ Err (TagNotDue i) → Judged b o
   sound : length b ≤ longest_record → AllStand b → RightLengths b → Accepted (verdict b) → is_broken o ≡ false → Judged b o
 
 module _ (b : List ℕ) where
-  too_long : longest_record < length b → verdict b ≡ MalformedRecord
-  unfolding check_record ◌then◌
+  too_long : longest_record < length b → verdict b ≡ Err MalformedRecord
   too_long h = rw (lt-ltb longest_record (length b) h)
 
   module _ (h : length b ≤ longest_record) where
-    stopped : (o : Outcome) → complete o ≡ false → check_walk (walk b).stage ≡ o → verdict b ≡ o
-    unfolding check_record ◌then◌
-    stopped o c e = rw (le-ltb longest_record (length b) h, e, c)
+    stopped : (r : Refusal) → check_walk (walk b).stage ≡ Err r → verdict b ≡ Err r
+    stopped r e = rw (le-ltb longest_record (length b) h, e)
 
-    went_on : check_walk (walk b).stage ≡ Complete → verdict b ≡ check_exact (walk b) (length b)
-    unfolding check_record ◌then◌
+    went_on : check_walk (walk b).stage ≡ Ok tt → verdict b ≡ check_exact (walk b) (length b)
     went_on e = rw (le-ltb longest_record (length b) h, e)
 
 judged : (b : List ℕ) → Judged b (verdict b)
@@ -83,8 +81,8 @@ judged b = elim (dec_lt longest_record (length b)) [
 ]
   where
     walk-judged : length b ≤ longest_record → Walked b → Judged b (verdict b)
-    walk-judged h (cut_in i p e) = cut_at i h p (stopped b h (FieldPastEnd i) refl (ap check_walk e))
-    walk-judged h (tag_in i found p e) = tag_at i h p (stopped b h (TagNotDue i) refl (ap check_walk e))
+    walk-judged h (cut_in i p e) = cut_at i h p (stopped b h (FieldPastEnd i) (ap check_walk e))
+    walk-judged h (tag_in i found p e) = tag_at i h p (stopped b h (TagNotDue i) (ap check_walk e))
     walk-judged h (all t) =
         let v = went_on b h (ap check_walk t.done) in
         let x = eqb (length_at b (field_start b 0)) 1 in
@@ -93,17 +91,20 @@ judged b = elim (dec_lt longest_record (length b)) [
         let e : exact (walk b) (length b) ≡ (x && (y && z)) = rw (t.size_length, t.method_length, t.end_is) in
         elim (is (x && (y && z))) [
           | holds r ↦
-              let c : verdict b ≡ Complete = v ∙ rw (e ∙ r) refl in
+              let c : verdict b ≡ Ok tt = v ∙ rw (e ∙ r) refl in
               let s = and_2 x (y && z) r in
               sound h t.stand (eqb-true _ _ (and_1 x (y && z) r), eqb-true _ _ (and_1 y z s), eqb-true _ _ (and_2 y z s)) (record { is = ap complete c }) (ap is_broken c)
           | fails r ↦ malformed (inr (t.stand, λ l. true≢false (sym (rw (eq-eqb _ _ l.0, eq-eqb _ _ l.1, eq-eqb _ _ l.2) refl) ∙ r))) (v ∙ rw (e ∙ r) refl)
         ]
 
 -- ---- the verdict is what the call hands back: where it is no refusal, neither are the later checks and the run one of these three
+first-stays : (o p q : Outcome) → complete o ≡ false → (o then p then q) ≡ o
+first-stays (Ok _) p q h = absurd (true≢false h)
+first-stays (Err r) p q h = refl
+
 module _ (b : List ℕ) where
   first-decides : (room : ℕ) → complete (verdict b) ≡ false → record_checks b room ≡ verdict b
-  unfolding record_checks byte_checks ◌then◌
-  first-decides room h = rw (h, h)
+  first-decides room h = first-stays (verdict b) _ _ h
 
   -- with a buffer of the answer's length, and with another
   abbrev own : List ℕ → RecordCall
@@ -153,39 +154,35 @@ handed-judged b out = go (judged b)
     go (sound h s r A u) = sound h s r A (handed-later b out A.is)
 
 -- ---- the theorem: one verdict holds, and none beside it
--- outcomes with other numbers differ
-differ : {A : Type 0} (o p q : Outcome) → o ≡ p → o ≡ q → eqb (number p) (number q) ≡ false → A
-differ o p q e f n = absurd (eqb-false (number p) (number q) n (ap number (sym e ∙ f)))
-
 module _ (b : List ℕ) (o : Outcome) where
-  past_end_told : length b ≤ longest_record → (i : ℕ) → Judged b o → o ≡ FieldPastEnd i ↔ PastEndAt b i
-  past_end_told h i (malformed m e) = (λ f. differ o MalformedRecord (FieldPastEnd i) e f refl, λ q. absurd (offends_not b h i (past_offends b i q) m))
+  past_end_told : length b ≤ longest_record → (i : ℕ) → Judged b o → o ≡ Err (FieldPastEnd i) ↔ PastEndAt b i
+  past_end_told h i (malformed m e) = (λ f. cc, λ q. absurd (offends_not b h i (past_offends b i q) m))
   past_end_told h i (cut_at j _ p e) = (
-    λ f. let s : j ≡ i = ap (λ (x : Outcome). (place x).row) (sym e ∙ f) in rw (← s) p,
-    λ q. e ∙ ap FieldPastEnd (same-field b j i (past_offends b j p) (past_offends b i q)),
+    λ f. let s : j ≡ i = cc in rw (← s) p,
+    λ q. e ∙ ap (λ (k : ℕ). Err (FieldPastEnd k)) (same-field b j i (past_offends b j p) (past_offends b i q)),
   )
   past_end_told h i (tag_at j _ p e) = (
-    λ f. differ o (TagNotDue j) (FieldPastEnd i) e f refl,
+    λ f. cc,
     λ q. let s = same-field b j i (tag-offends b j p) (past_offends b i q) in absurd (let w = rw s at p in omega (arith, w.1, q.1)),
   )
   past_end_told h i (sound _ s r A u) = (λ f. absurd (true≢false (ap is_broken (sym f) ∙ u)), λ q. absurd ((past_offends b i q).1 (s i q.0.0)))
 
-  wrong_tag-told : length b ≤ longest_record → (i : ℕ) → Judged b o → o ≡ TagNotDue i ↔ WrongTagAt b i
-  wrong_tag-told h i (malformed m e) = (λ f. differ o MalformedRecord (TagNotDue i) e f refl, λ q. absurd (offends_not b h i (tag-offends b i q) m))
+  wrong_tag-told : length b ≤ longest_record → (i : ℕ) → Judged b o → o ≡ Err (TagNotDue i) ↔ WrongTagAt b i
+  wrong_tag-told h i (malformed m e) = (λ f. cc, λ q. absurd (offends_not b h i (tag-offends b i q) m))
   wrong_tag-told h i (cut_at j _ p e) = (
-    λ f. differ o (FieldPastEnd j) (TagNotDue i) e f refl,
+    λ f. cc,
     λ q. let s = same-field b j i (past_offends b j p) (tag-offends b i q) in absurd (let w = rw s at p in omega (arith, w.1, q.1)),
   )
   wrong_tag-told h i (tag_at j _ p e) = (
-    λ f. let s : j ≡ i = ap (λ (x : Outcome). (place x).row) (sym e ∙ f) in rw (← s) p,
-    λ q. e ∙ ap TagNotDue (same-field b j i (tag-offends b j p) (tag-offends b i q)),
+    λ f. let s : j ≡ i = cc in rw (← s) p,
+    λ q. e ∙ ap (λ (k : ℕ). Err (TagNotDue k)) (same-field b j i (tag-offends b j p) (tag-offends b i q)),
   )
   wrong_tag-told h i (sound _ s r A u) = (λ f. absurd (true≢false (ap is_broken (sym f) ∙ u)), λ q. absurd ((tag-offends b i q).1 (s i q.0.0)))
 
-  malformed-told : Judged b o → o ≡ MalformedRecord ↔ Malformed b
+  malformed-told : Judged b o → o ≡ Err MalformedRecord ↔ Malformed b
   malformed-told (malformed m e) = (λ _. m, λ _. e)
-  malformed-told (cut_at i h p e) = (λ f. differ o (FieldPastEnd i) MalformedRecord e f refl, λ m. absurd (offends_not b h i (past_offends b i p) m))
-  malformed-told (tag_at i h p e) = (λ f. differ o (TagNotDue i) MalformedRecord e f refl, λ m. absurd (offends_not b h i (tag-offends b i p) m))
+  malformed-told (cut_at i h p e) = (λ f. cc, λ m. absurd (offends_not b h i (past_offends b i p) m))
+  malformed-told (tag_at i h p e) = (λ f. cc, λ m. absurd (offends_not b h i (tag-offends b i p) m))
   malformed-told (sound h s r A u) = (λ f. absurd (true≢false (ap is_broken (sym f) ∙ u)), λ m. absurd (lengths_not b h r m))
 
   unbroken_accepted : Judged b o → is_broken o ≡ false → Accepted (verdict b)
@@ -201,7 +198,7 @@ FormPasses b = length b ≤ longest_record → Accepted (check_record (length b)
 own_record_lem : (b : List ℕ) → b ≡ own_record b → FormPasses b
 own_record_lem b e =
     let r = request b in
-    subst FormPasses (sym e) (elim (is r.numbered) [
+    subst FormPasses (sym e) (elim (is (numbered r)) [
       | holds t ↦ rw t (numbered_well_formed r.size r.method (contracts_of b) (entries_of b))
       | fails t ↦ rw t (record_well_formed r.size r.method (entries_of b))
     ])

@@ -4,12 +4,13 @@ use mathlib.Core.List.{List, []}
 use Prim.Native.Nat.{ℕ, ◌*◌, ◌≤◌}
 use lib.ListN.{length}
 use lib.Ieee.{Float}
-use Rattle.arithmetic.specs.declared.outcome.Outcome.{Outcome}
-use Rattle.arithmetic.specs.declared.outcome.Outcome.TheVariants.{Complete, MatrixLength, BufferLength}
+use Rattle.arithmetic.specs.Outcome.{Outcome}
+use Rattle.std.specs.Prelude.{Ok}
+use Rattle.arithmetic.specs.declared.refusal.Refusal.TheVariants.{MatrixLength, BufferLength}
 use Rattle.matrix.specs.Checks.{check_buffer, check_finite, check_symmetric}
 use Rattle.matrix.proofs.CheckLaws.{Accepted, then_accepted, size_passes, length-passes}
 use Rattle.methods.specs.AcceptedMatrix.{AcceptedMatrix}
-use Rattle.methods.specs.Calls.{operand_chain, method_of}
+use Rattle.methods.specs.Calls.{method_of}
 use Rattle.methods.specs.Factor.{factor, tolerances}
 use Rattle.methods.specs.Reloading.{reload}
 use Rattle.methods.proofs.AcceptedCalls.{method_passes, finite_passes, symmetric-passes, matrix-doubles, reload-accepted}
@@ -21,7 +22,7 @@ use Rattle.encoding.specs.Bytes.{numbers, doubles, double_bytes}
 use Rattle.encoding.specs.Checks.{check_entries}
 use Rattle.encoding.proofs.ByteLaws.{length-content}
 use Rattle.encoding.proofs.Content.{doubles-content}
-use Rattle.byte_factor.specs.Factor.{BytesCall, answered_bytes, entry_byte_checks, factor_byte_checks, bytes_call_with}
+use Rattle.byte_factor.specs.Factor.{BytesCall, answered_bytes, entry_byte_checks, bytes_call_with}
 use Rattle.whole_calls.specs.ByteCalls.{LentBytes, FittingBytes, checked_bytes, PassesBytes, read_bytes, ByteCallsTheorem, NumberedByteCallsTheorem}
 use Rattle.whole_calls.specs.NumberBytes.{number_bytes}
 use Rattle.whole_calls.proofs.NumberBytes.{numbers-content, number-bytes_pass, reloaded_below}
@@ -34,7 +35,7 @@ module _ (numbering : Outcome) (ns : List ℕ) (N : Accepted numbering) (method 
   same = doubles-content a (matrix-doubles n a u A)
 
   bytes-pass : Accepted (checked_bytes numbering method n a b)
-  unfolding factor_byte_checks entry_byte_checks operand_chain
+  unfolding entry_byte_checks
   bytes-pass =
       let entries : Accepted (check_entries n (length (double_bytes a))) = length-passes (8 * (n * n)) (length (double_bytes a)) MatrixLength (length-content a ∙ ap (λ (x : ℕ). 8 * x) A.entries) in
       let numbered = then_accepted (then_accepted (then_accepted (method_passes method p q) (size_passes n u w)) entries) N in
@@ -59,16 +60,16 @@ module _ (numbering : Outcome) (ns : List ℕ) (N : Accepted numbering) (method 
       ap read_bytes called_is ∙ rw (doubles-content _ d.0, doubles-content _ d.1)
 
 -- ---- without contract numbers
-pub none : Accepted Complete
+pub none : Accepted (Ok tt)
 none = record { is = refl }
 
 pub byte_calls : ByteCallsTheorem
 byte_calls method n a s b b' p q u w A L F F' =
     let A' = reload-accepted n a s A L in
     record {
-      first = call_passes Complete [] none method n a b p q u w A F;
-      second = call_passes Complete [] none method n (reload n s a) b' p q u w A' F';
-      alike = rw (read Complete [] none method n a b p q u w A F, read Complete [] none method n (reload n s a) b' p q u w A' F') (load_order (method_of method) tolerances n a s A L);
+      first = call_passes (Ok tt) [] none method n a b p q u w A F;
+      second = call_passes (Ok tt) [] none method n (reload n s a) b' p q u w A' F';
+      alike = rw (read (Ok tt) [] none method n a b p q u w A F, read (Ok tt) [] none method n (reload n s a) b' p q u w A' F') (load_order (method_of method) tolerances n a s A L);
     }
 
 -- ---- with contract numbers

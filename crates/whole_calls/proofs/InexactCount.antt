@@ -3,8 +3,7 @@ use mathlib.Core.Path.{refl, sym, ap, ◌∙◌, subst}
 use Prim.Native.Nat.{ℕ}
 use native.Mathlib.Omega.{arith}
 use lib.ListN.{length}
-use Rattle.arithmetic.specs.Outcome.{complete}
-use Rattle.arithmetic.specs.declared.outcome.Outcome.{Outcome}
+use Rattle.arithmetic.specs.Outcome.{complete, Outcome}
 use Rattle.arithmetic.proofs.Cases.{is, holds, fails}
 use Rattle.methods.specs.Calls.{method_of, unstarted, factor_checks, call_with}
 use Rattle.methods.specs.Factor.{tolerances}

@@ -4,14 +4,14 @@ use mathlib.Core.List.{List, [], ◌∷◌, ◌++◌, append_assoc, append-nil}
 use mathlib.Core.Bool.{true, false, not, ◌&&◌, false≢true}
 use Prim.Native.Nat.{ℕ, suc, ◌+◌, ◌-◌, ◌*◌, ◌/◌, ◌%◌, ◌≤◌, ◌<◌}
 use native.Mathlib.Omega.{arith}
+use Rattle.std.specs.Prelude.{None, Some}
 use lib.ListN.{length, get_or, take, drop, length-append, length-drop, take-append-drop}
 use lib.Seq.{take-length, take-append_seam, drop_at, drop-append-add, get_or-append_seam, drop-cons, drop-drop, drop-length, length-take-le}
 use lib.Dec.{eqb, ltb}
 use borrow.Author.Tests.{eqb-true, eq-eqb, ltb-false, le-ltb, not-false}
 use Rattle.arithmetic.proofs.OrderLaws.{and_1, and_2}
-use Rattle.arithmetic.specs.Outcome.{◌then◌}
 use Rattle.arithmetic.proofs.OutcomeLaws.{refuse-complete}
-use Rattle.arithmetic.specs.declared.outcome.Outcome.TheVariants.{MalformedRecord}
+use Rattle.arithmetic.specs.declared.refusal.Refusal.TheVariants.{MalformedRecord}
 use Rattle.matrix.proofs.CellLaws.{square-small}
 use Rattle.matrix.specs.Plain.{AllBelow}
 use Rattle.matrix.proofs.CheckLaws.{Accepted, both_accepted}
@@ -55,7 +55,7 @@ module _ (b pre content post : List ℕ) (tag : ℕ) (h : length content < 65536
 -- ---- the record of its parts
 -- what is known after 01 and 02
 abbrev head_parts : Parts
-head_parts = record { size = record { start = 3; len = 1 }; method = record { start = 7; len = 1 }; numbered = false; numbers = nothing; entries = nothing }
+head_parts = record { size = record { start = 3; len = 1 }; method = record { start = 7; len = 1 }; numbers = None; entries = nothing }
 
 abbrev after_head : Cursor
 after_head = record { at = 8; stage = NumbersOrEntriesDue; parts = head_parts }
@@ -72,7 +72,6 @@ head_walk n method b rest e =
 -- its form passes where the walk over it is exact
 exact-accepted : (b : List ℕ) (parts : Parts) → walk b ≡ record { at = length b; stage = Done; parts = parts } → parts.size.len ≡ 1 → parts.method.len ≡ 1 → length b ≤ longest_record
     → Accepted (check_record (length b) (walk b))
-unfolding check_record ◌then◌
 exact-accepted b parts e s m h = record { is = rw (e, s, m, le-ltb longest_record (length b) h, eq-eqb (length b) (length b) refl) }
 
 module _ (n method : ℕ) (entries : List ℕ) where
@@ -98,7 +97,7 @@ module _ (n method : ℕ) (entries : List ℕ) where
       stops_three b (ap (λ (c : Cursor). nothing_due c.stage) e) ∙ e ∙ rw record_length refl
 
   pub record_request : length entries < 65536
-      → request (matrix_record n method entries) ≡ record { size = n; method = method; numbered = false; numbers = nothing; entries = record { start = 11; len = length entries } }
+      → request (matrix_record n method entries) ≡ record { size = n; method = method; numbers = None; entries = record { start = 11; len = length entries } }
   unfolding request matrix_record bytes
   record_request h = rw (record_walk h)
 
@@ -131,7 +130,7 @@ module _ (n method : ℕ) (contracts entries : List ℕ) where
   numbered_parts = noted 0x03 entries_part (noted 0x04 numbers_part head_parts)
 
   abbrev pub numbered_request : Request
-  numbered_request = record { size = n; method = method; numbered = true; numbers = numbers_part; entries = entries_part }
+  numbered_request = record { size = n; method = method; numbers = Some numbers_part; entries = entries_part }
 
   module _ (hn : length contracts < 65536) (h : length entries < 65536) where
     numbered_walk : walk (numbered_record n method contracts entries) ≡ record { at = length (numbered_record n method contracts entries); stage = Done; parts = numbered_parts }
@@ -192,14 +191,13 @@ module _ (b : List ℕ) (at : ℕ) (small : AllBelow 256 b) (whole : cut b at �
 -- a walk whose record's form passes passed all fields due
 module _ (b : List ℕ) (A : Accepted (check_record (length b) (walk b))) where
   parts : Accepted (check_longest (length b)) × (Accepted (check_walk (walk b).stage) × Accepted (check_exact (walk b) (length b)))
-  unfolding check_record
   parts = let e = both_accepted _ _ A in let w = both_accepted _ _ e.0 in (w.0, (w.1, e.1))
 
   pub accepted_length : length b ≤ longest_record
-  accepted_length = ltb-false longest_record (length b) (refuse-complete (ltb longest_record (length b)) MalformedRecord refl parts.0.is)
+  accepted_length = ltb-false longest_record (length b) (refuse-complete (ltb longest_record (length b)) MalformedRecord parts.0.is)
 
   walk-exact : exact (walk b) (length b) ≡ true
-  walk-exact = not-false (exact (walk b) (length b)) (refuse-complete (not (exact (walk b) (length b))) MalformedRecord refl parts.1.1.is)
+  walk-exact = not-false (exact (walk b) (length b)) (refuse-complete (not (exact (walk b) (length b))) MalformedRecord parts.1.1.is)
 
   exact-parts : ((walk b).parts.size.len ≡ 1) × (((walk b).parts.method.len ≡ 1) × ((walk b).at ≡ length b))
   exact-parts =

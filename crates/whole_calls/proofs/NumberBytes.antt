@@ -5,7 +5,7 @@ use Prim.Native.Nat.{ℕ, zero, suc, ◌+◌, ◌*◌, ◌/◌, ◌<◌}
 use native.Mathlib.Omega.{arith}
 use lib.ListN.{length, get_or, take, drop, length-append}
 use lib.Seq.{take_at, drop-append-add, ext_get_or}
-use Rattle.arithmetic.specs.declared.outcome.Outcome.TheVariants.{NumbersLength}
+use Rattle.arithmetic.specs.declared.refusal.Refusal.TheVariants.{NumbersLength}
 use Rattle.matrix.specs.Checks.{check_distinct, Distinct}
 use Rattle.matrix.specs.Plain.{AllBelow}
 use Rattle.matrix.proofs.CheckLaws.{Accepted, distinct-passes, then_accepted, length-passes}

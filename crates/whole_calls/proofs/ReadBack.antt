@@ -7,13 +7,12 @@ use Prim.Native.Nat.{ℕ, ◌≤◌}
 use native.Mathlib.Omega.{arith}
 use borrow.Author.Tests.{ne_eqb}
 use lib.ListN.{length, length-append}
-use Rattle.arithmetic.specs.Outcome.{number, place, complete}
+use Rattle.arithmetic.specs.Outcome.{number, place, complete, Outcome}
 use Rattle.arithmetic.proofs.OutcomeLaws.{complete-is}
-use Rattle.arithmetic.specs.declared.outcome.Outcome.{Outcome}
-use Rattle.arithmetic.specs.declared.outcome.Outcome.TheVariants.{Complete, MalformedRecord, UnknownMethod, SizeOutOfRange, MatrixLength, BufferLength, IndexOutOfRange, NotFinite, Unsymmetric, StoredNotFinite, FieldPastEnd, TagNotDue, NumbersLength, NumberRepeated, ListLength, ZeroDiagonal}
+use Rattle.std.specs.Prelude.{Ok, None, Some, Err}
+use Rattle.arithmetic.specs.declared.refusal.Refusal.TheVariants.{MalformedRecord, UnknownMethod, SizeOutOfRange, MatrixLength, BufferLength, IndexOutOfRange, NotFinite, Unsymmetric, StoredNotFinite, FieldPastEnd, TagNotDue, NumbersLength, NumberRepeated, ListLength, ZeroDiagonal}
 use Rattle.methods.specs.Result.{Result}
-use Rattle.methods.specs.declared.decomposition.Mark.{Mark}
-use Rattle.methods.specs.declared.decomposition.Mark.TheVariants.{Never, Step}
+use Rattle.methods.specs.Marks.{Mark}
 use Rattle.encoding.specs.Bytes.{bytes, doubles, double_bytes}
 use Rattle.answer_record.specs.Field.{field}
 use Rattle.answer_record.specs.AnswerRecord.{step_byte, marks_fields, count_field, factor_fields, place_field, answer_record}
@@ -72,26 +71,26 @@ module _ (r : Result) where
 
 -- ---- what a number and a byte name
 outcome-read : (o : Outcome) → outcome_read (number o) (place o).row (place o).column ≡ o
-outcome-read Complete = refl
-outcome-read MalformedRecord = refl
-outcome-read UnknownMethod = refl
-outcome-read SizeOutOfRange = refl
-outcome-read MatrixLength = refl
-outcome-read BufferLength = refl
-outcome-read (IndexOutOfRange position) = refl
-outcome-read (NotFinite row column) = refl
-outcome-read (Unsymmetric row column) = refl
-outcome-read (StoredNotFinite step) = refl
-outcome-read (FieldPastEnd field) = refl
-outcome-read (TagNotDue field) = refl
-outcome-read NumbersLength = refl
-outcome-read (NumberRepeated position) = refl
-outcome-read ListLength = refl
-outcome-read (ZeroDiagonal row) = refl
+outcome-read (Ok _) = refl
+outcome-read (Err MalformedRecord) = refl
+outcome-read (Err UnknownMethod) = refl
+outcome-read (Err SizeOutOfRange) = refl
+outcome-read (Err MatrixLength) = refl
+outcome-read (Err BufferLength) = refl
+outcome-read (Err (IndexOutOfRange position)) = refl
+outcome-read (Err (NotFinite row column)) = refl
+outcome-read (Err (Unsymmetric row column)) = refl
+outcome-read (Err (StoredNotFinite step)) = refl
+outcome-read (Err (FieldPastEnd field)) = refl
+outcome-read (Err (TagNotDue field)) = refl
+outcome-read (Err NumbersLength) = refl
+outcome-read (Err (NumberRepeated position)) = refl
+outcome-read (Err ListLength) = refl
+outcome-read (Err (ZeroDiagonal row)) = refl
 
 mark-read : (m : Mark) → StepFits m → mark_read (step_byte m) ≡ m
-mark-read Never h = refl
-mark-read (Step j) h = rw (ne_eqb j 0xff (λ e. omega (arith, h j refl)))
+mark-read None h = refl
+mark-read (Some j) h = rw (ne_eqb j 0xff (λ e. omega (arith, h j refl)))
 
 -- ---- the theorems
 module _ (r : Result) (f : Fits r) where

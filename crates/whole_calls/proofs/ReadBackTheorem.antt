@@ -4,8 +4,7 @@ use mathlib.Core.Bool.{false}
 use mathlib.Core.List.{List}
 use Prim.Native.Nat.{ℕ}
 use native.Mathlib.Omega.{arith}
-use Rattle.arithmetic.specs.Outcome.{complete}
-use Rattle.arithmetic.specs.declared.outcome.Outcome.{Outcome}
+use Rattle.arithmetic.specs.Outcome.{complete, Outcome}
 use Rattle.arithmetic.proofs.Cases.{Is, is, holds, fails}
 use Rattle.matrix.specs.Checks.{check_symmetric}
 use Rattle.matrix.proofs.CheckLaws.{Accepted}

@@ -5,11 +5,9 @@ use mathlib.Core.Bool.{true, false}
 use Prim.Native.Nat.{ℕ, ◌≤◌, ◌<◌}
 use native.Mathlib.Omega.{arith}
 use lib.ListN.{length}
-use Rattle.arithmetic.specs.Outcome.{complete, ◌then◌}
-use Rattle.arithmetic.specs.declared.outcome.Outcome.{Outcome}
-use Rattle.arithmetic.specs.declared.outcome.Outcome.TheVariants.{Complete}
-use Rattle.arithmetic.proofs.OutcomeLaws.{complete-is}
-use Rattle.arithmetic.proofs.Cases.{is, holds, fails}
+use Rattle.arithmetic.specs.Outcome.{◌then◌, Outcome}
+use Rattle.std.specs.Prelude.{Ok, Err, None}
+use Rattle.std.specs.Option.{is_some}
 use Rattle.answer_record.specs.AnswerRecord.{longest_answer}
 use Rattle.matrix.specs.Checks.{check_size}
 use Rattle.matrix.proofs.CheckLaws.{Accepted, goes_on}
@@ -17,7 +15,7 @@ use Rattle.methods.specs.Calls.{check_method}
 use Rattle.encoding.specs.Bytes.{numbers}
 use Rattle.encoding.proofs.ContractNumbers.{numbers-none}
 use Rattle.encoding.specs.Checks.{check_entries}
-use Rattle.record.specs.Cursor.{content_at, walk}
+use Rattle.record.specs.Cursor.{content_at, optional_content, walk}
 use Rattle.record.specs.MatrixRecord.{matrix_record, numbered_record, request, contracts_of, entries_of, numbers_of, longest_record, check_record, request_checks, byte_checks, record_checks}
 use Rattle.record.specs.Record.{result_of}
 use Rattle.record.specs.declared.read.Request.{Request}
@@ -25,13 +23,12 @@ use Rattle.whole_calls.specs.BrokenRecords.{checks_of_content, numbered_checks, 
 use Rattle.whole_calls.proofs.MatrixRecord.{record_length, record_request, record_entries, record_well_formed, numbered_length, numbered_request, numbered_request_lem, numbered_contracts, numbered_entries, numbered_well_formed}
 
 -- a check that isn't made
-pub then_nothing : (o : Outcome) → (o then Complete) ≡ o
-unfolding ◌then◌
-then_nothing o = elim (is (complete o)) [ holds e ↦ rw e (sym (complete-is o e)) | fails e ↦ rw e ]
+pub then_nothing : (o : Outcome) → (o then Ok tt) ≡ o
+then_nothing (Ok tt) = refl
+then_nothing (Err r) = refl
 
 -- where a record's form passes, its request decides
 content-left : (b : List ℕ) (room : ℕ) → Accepted (check_record (length b) (walk b)) → byte_checks b room ≡ request_checks (request b) room (contracts_of b) (entries_of b)
-unfolding byte_checks
 content-left b room A = sym (goes_on A refl)
 
 -- ---- the record of n, a method and entries
@@ -45,14 +42,13 @@ module _ (n method : ℕ) (entries : List ℕ) (h : length (matrix_record n meth
   method_is : (request (matrix_record n method entries)).method ≡ method
   method_is = ap (λ (r : Request). r.method) (record_request n method entries short)
 
-  unnumbered : (request (matrix_record n method entries)).numbered ≡ false
-  unnumbered = ap (λ (r : Request). r.numbered) (record_request n method entries short)
+  unnumbered : (request (matrix_record n method entries)).numbers ≡ None
+  unnumbered = ap (λ (r : Request). r.numbers) (record_request n method entries short)
 
   without_numbers : numbers_of (matrix_record n method entries) ≡ []
-  without_numbers = ap (λ (r : Request). numbers (content_at (matrix_record n method entries) r.numbers)) (record_request n method entries short) ∙ numbers-none
+  without_numbers = ap (λ (r : Request). numbers (optional_content (matrix_record n method entries) r.numbers)) (record_request n method entries short) ∙ numbers-none
 
   checks_are : (room : ℕ) → record_checks (matrix_record n method entries) room ≡ checks_of_content n method entries room
-  unfolding record_checks request_checks
   checks_are room =
       rw (content-left (matrix_record n method entries) room (record_well_formed n method entries h), record_entries n method entries short, size_is, method_is, unnumbered, then_nothing (check_method method then check_size n then check_entries n (length entries)))
 
@@ -83,8 +79,8 @@ module _ (n method : ℕ) (contracts entries : List ℕ) (h : length (numbered_r
   numbered_method : (request b).method ≡ method
   numbered_method = ap (λ (r : Request). r.method) parts_are
 
-  numbered : (request b).numbered ≡ true
-  numbered = ap (λ (r : Request). r.numbered) parts_are
+  numbered : is_some (request b).numbers ≡ true
+  numbered = ap (λ (r : Request). is_some r.numbers) parts_are
 
   contracts-are : contracts_of b ≡ contracts
   contracts-are = numbered_contracts n method contracts entries contracts-short entries-short
@@ -93,7 +89,6 @@ module _ (n method : ℕ) (contracts entries : List ℕ) (h : length (numbered_r
   entries-are = numbered_entries n method contracts entries contracts-short entries-short
 
   numbered_checks_are : (room : ℕ) → record_checks b room ≡ numbered_checks n method contracts entries room
-  unfolding record_checks request_checks
   numbered_checks_are room = rw (content-left b room (numbered_well_formed n method contracts entries h), contracts-are, entries-are, numbered_size, numbered_method, numbered)
 
   numbered_result_is : result_of b ≡ content_result (numbered_checks n method contracts entries longest_answer) n method (numbers contracts) entries

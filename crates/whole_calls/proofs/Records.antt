@@ -5,7 +5,7 @@ use Prim.Native.Nat.{ℕ, ◌*◌, ◌≤◌}
 use lib.ListN.{length}
 use lib.Ieee.{Float}
 use Rattle.arithmetic.specs.Outcome.{◌then◌}
-use Rattle.arithmetic.specs.declared.outcome.Outcome.TheVariants.{MatrixLength, BufferLength}
+use Rattle.arithmetic.specs.declared.refusal.Refusal.TheVariants.{MatrixLength, BufferLength}
 use Rattle.matrix.specs.Checks.{check_size, check_buffer, check_finite, check_symmetric, Distinct}
 use Rattle.matrix.specs.Plain.{AllBelow}
 use Rattle.matrix.proofs.CheckLaws.{Accepted, then_accepted, size_passes, length-passes}

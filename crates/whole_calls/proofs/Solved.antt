@@ -9,9 +9,8 @@ use lib.Dec.{eqb}
 use lib.ListN.{length, get_or}
 use lib.Ieee.{Float, nan}
 use Rattle.arithmetic.specs.DoubleList.{AllDoubles}
-use Rattle.arithmetic.specs.Outcome.{complete}
-use Rattle.arithmetic.specs.declared.outcome.Outcome.{Outcome}
-use Rattle.arithmetic.specs.declared.outcome.Outcome.TheVariants.{Complete}
+use Rattle.arithmetic.specs.Outcome.{complete, Outcome}
+use Rattle.std.specs.Prelude.{Ok}
 use Rattle.arithmetic.proofs.Cases.{same_tests}
 use Rattle.matrix.proofs.TableLaws.{length-table, get_or-table}
 use Rattle.methods.specs.AcceptedMatrix.{AcceptedMatrix}
@@ -53,7 +52,6 @@ eight_times : (k m : ℕ) → eqb (8 * k) (8 * m) ≡ eqb k m
 eight_times k m = same_tests (eqb (8 * k) (8 * m)) (eqb k m) (λ t. eq-eqb k m (omega (arith, eqb-true (8 * k) (8 * m) t))) (λ t. eq-eqb (8 * k) (8 * m) (omega (arith, eqb-true k m t)))
 
 lengths_read : (n l y p b : ℕ) → length_byte_checks n (8 * l) (8 * y) p (8 * b) ≡ length_checks n l y p b
-unfolding length_byte_checks length_checks
 lengths_read n l y p b = rw (eight_times l (n * n), eight_times y n, eight_times b n)
 
 length-read : (n : ℕ) (y : List ℕ) → length y ≡ 8 * n → length (doubles y) ≡ n
@@ -74,7 +72,6 @@ module _ (n : ℕ) (l : List Float) (p : List ℕ) (b : List Float) (y : List �
   checks-read = rw (doubles-content l L, doubles-content b B, length-content l, length-content b, length-read n y e, e, lengths_read n (length l) n (length p) (length b))
 
   solve-read : read_solved (solve_bytes_call n (double_bytes l) p (double_bytes b) y) ≡ solve_call n l p b (doubles y)
-  unfolding solve_bytes_call solve_call
   solve-read = ap₂ (λ (x : List Float) (z : List Float). read_solved (call_of (solve_byte_checks n (double_bytes l) (length y) p (double_bytes b)) (solve n x p z) y)) (doubles-content l L) (doubles-content b B)
       ∙ ap (λ (o : Outcome). read_solved (call_of o (solve n l p b) y)) checks-read
       ∙ call-read (solve_checks n l (length (doubles y)) p b) (solve n l p b) y (solve-doubles n l p b)
@@ -84,7 +81,7 @@ abbrev ran : Method → List ℕ → ℕ → List Float → Result
 ran m ns n a = factor m tolerances ns n a
 
 module _ (m : Method) (ns ns' : List ℕ) (n : ℕ) (a : List Float) (s : List ℕ) (b : List Float) (u : 1 ≤ n) (A : AcceptedMatrix n a) (S : LoadOrder n s) (B : length b ≡ n)
-    (T : AlikeThroughout n s (ran m ns n a) (ran m ns' n (reload n s a))) (C : (ran m ns n a).decomposition.outcome ≡ Complete) where
+    (T : AlikeThroughout n s (ran m ns n a) (ran m ns' n (reload n s a))) (C : (ran m ns n a).decomposition.outcome ≡ Ok tt) where
   A' : AcceptedMatrix n (reload n s a)
   A' = reload-accepted n a s A S
 
@@ -97,23 +94,23 @@ module _ (m : Method) (ns ns' : List ℕ) (n : ℕ) (a : List Float) (s : List �
       let r' = ran m ns' n (reload n s a) in
       let l = (results m ns n a u A).doubles.0 in
       let l' = (results m ns' n (reload n s a) u A').doubles.0 in
-      rw (checks-read n r.l r.p b y l D Y, solve-read n r.l r.p b y l D Y, solve-read n r'.l r'.p (reload_right n s b) y' l' (right-doubles n s b S B D) Y')
+      rw (solve-read n r.l r.p b y l D Y, solve-read n r'.l r'.p (reload_right n s b) y' l' (right-doubles n s b S B D) Y', checks-read n r.l r.p b y l D Y)
       (runs_solved (doubles y) (doubles y') (length-read n y Y) (length-read n y' Y'))
 
 -- ---- without contract numbers
 pub solved_calls : SolvedCallsTheorem
 solved_calls method n a s lent lent' b y y' p q u w A S F F' B Y Y' U =
     let A' = reload-accepted n a s A S in
-    let is = call-is Complete [] none method n a lent p q u w A F in
-    let is' = call-is Complete [] none method n (reload n s a) lent' p q u w A' F' in
+    let is = call-is (Ok tt) [] none method n a lent p q u w A F in
+    let is' = call-is (Ok tt) [] none method n (reload n s a) lent' p q u w A' F' in
     let K : Untied (ran (method_of method) [] n a).decomposition = rw (← is) at U in
     rw (← is, ← is') (runs_solved (method_of method) [] [] n a s b u A S B ((load_order (method_of method) tolerances n a s A S).throughout K.tied K.phase2) K.outcome y y' Y Y')
 
 pub solved_byte_calls : SolvedByteCallsTheorem
 solved_byte_calls method n a s lent lent' b y y' p q u w A S F F' B D Y Y' U =
     let A' = reload-accepted n a s A S in
-    let is = called_is Complete [] none method n a lent p q u w A F in
-    let is' = called_is Complete [] none method n (reload n s a) lent' p q u w A' F' in
+    let is = called_is (Ok tt) [] none method n a lent p q u w A F in
+    let is' = called_is (Ok tt) [] none method n (reload n s a) lent' p q u w A' F' in
     let K : Untied (ran (method_of method) [] n a).decomposition = rw is at U in
     rw (is, is') (runs_solved_bytes (method_of method) [] [] n a s b u A S B ((load_order (method_of method) tolerances n a s A S).throughout K.tied K.phase2) K.outcome D y y' Y Y')
 
@@ -127,7 +124,7 @@ numbered_solved_calls method n a ks s lent lent' b y y' p q u w A e K S F F' B Y
     let is = call-is _ ks N method n a lent p q u w A F in
     let is' = call-is _ ks' N' method n (reload n s a) lent' p q u w A' F' in
     let O₁ : OnePhase (method_of method) (ran (method_of method) ks n a) = rw (← is) at O in
-    let C₁ : (ran (method_of method) ks n a).decomposition.outcome ≡ Complete = rw (← is) at C in
+    let C₁ : (ran (method_of method) ks n a).decomposition.outcome ≡ Ok tt = rw (← is) at C in
     rw (← is, ← is') (runs_solved (method_of method) ks ks' n a s b u A S B ((numbered (method_of method) tolerances ks n a s e K A S).throughout O₁) C₁ y y' Y Y')
 
 pub numbered_solved_byte_calls : NumberedSolvedByteCallsTheorem
@@ -141,6 +138,6 @@ numbered_solved_byte_calls method n a ks s lent lent' b y y' p q u w A e below K
     let is : called_numbered_bytes method n ks a lent ≡ answered_bytes n (ran m ks n a) = called_is _ _ N method n a lent p q u w A F ∙ ap (λ (x : List ℕ). answered_bytes n (ran m x n a)) (numbers-content ks below) in
     let is' : called_numbered_bytes method n ks' (reload n s a) lent' ≡ answered_bytes n (ran m ks' n (reload n s a)) =
     called_is _ _ N' method n (reload n s a) lent' p q u w A' F' ∙ ap (λ (x : List ℕ). answered_bytes n (ran m x n (reload n s a))) (numbers-content ks' below') in
-    let C₁ : (ran m ks n a).decomposition.outcome ≡ Complete = rw is at C in
+    let C₁ : (ran m ks n a).decomposition.outcome ≡ Ok tt = rw is at C in
     let O₁ : OnePhase m (ran m ks n a) = subst (OnePhase m) (read _ _ N method n a lent p q u w A F ∙ ap (λ (x : List ℕ). ran m x n a) (numbers-content ks below)) O in
     rw (is, is') (runs_solved_bytes m ks ks' n a s b u A S B ((numbered m tolerances ks n a s e K A S).throughout O₁) C₁ D y y' Y Y')

@@ -3,9 +3,8 @@
 -- (proofs/AsBefore.antt).
 use Rattle.std.specs.Prelude.{◌≡◌, cond, List, [], ℕ, ◌+◌, ◌≤◌, eqb, ltb, length, get_or}
 use Rattle.arithmetic.specs.Loop.{range}
-use Rattle.arithmetic.specs.Outcome.{refuse, ◌then◌}
-use Rattle.arithmetic.specs.declared.outcome.Outcome.{Outcome}
-use Rattle.arithmetic.specs.declared.outcome.Outcome.TheVariants.{MalformedRecord}
+use Rattle.arithmetic.specs.Outcome.{refuse, ◌then◌, Outcome}
+use Rattle.arithmetic.specs.declared.refusal.Refusal.TheVariants.{MalformedRecord}
 use Rattle.methods.specs.Result.{Result}
 use Rattle.encoding.specs.Bytes.{low_first}
 use Rattle.encoding.specs.Writing.{over}

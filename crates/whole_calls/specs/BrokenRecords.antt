@@ -2,10 +2,9 @@
 -- buffer lent for the answer, said by the record's bytes alone; and by what every other record is judged. Proved as `broken_records`
 -- (proofs/BrokenRecords.antt), `whole-records` and `whole-numbered_records` (proofs/Reading.antt). That nothing changed for records
 -- without a field 04 is specs/AsBefore.antt.
-use Rattle.std.specs.Prelude.{◌≡◌, Bool, false, cond, ◌||◌, List, [], ◌∷◌, ◌⊎◌, ◌↔◌, ℕ, zero, suc, ◌+◌, ◌*◌, ◌≤◌, ◌<◌, eqb, length, get_or}
-use Rattle.arithmetic.specs.Outcome.{number, complete, ◌then◌}
-use Rattle.arithmetic.specs.declared.outcome.Outcome.{Outcome}
-use Rattle.arithmetic.specs.declared.outcome.Outcome.TheVariants.{MalformedRecord, FieldPastEnd, TagNotDue}
+use Rattle.std.specs.Prelude.{◌≡◌, Bool, false, cond, ◌||◌, List, [], ◌∷◌, ◌⊎◌, ◌↔◌, ℕ, zero, suc, ◌+◌, ◌*◌, ◌≤◌, ◌<◌, eqb, length, get_or, Err}
+use Rattle.arithmetic.specs.Outcome.{number, complete, ◌then◌, Outcome}
+use Rattle.arithmetic.specs.declared.refusal.Refusal.TheVariants.{MalformedRecord, FieldPastEnd, TagNotDue}
 use Rattle.matrix.specs.Checks.{check_size, check_buffer, check_finite, check_symmetric}
 use Rattle.matrix.specs.Plain.{AllBelow}
 use Rattle.methods.specs.Result.{Result}
@@ -14,7 +13,7 @@ use Rattle.methods.specs.Calls.{check_method, method_of}
 use Rattle.encoding.specs.Bytes.{numbers, doubles}
 use Rattle.encoding.specs.Checks.{check_entries, number_byte_checks}
 use Rattle.answer_record.specs.AnswerRecord.{longest_answer}
-use Rattle.record.specs.MatrixRecord.{matrix_record, numbered_record, request, contracts_of, entries_of, longest_record, record_checks}
+use Rattle.record.specs.MatrixRecord.{matrix_record, numbered_record, request, numbered, contracts_of, entries_of, longest_record, record_checks}
 use Rattle.record.specs.Record.{refused, result_of, record_call}
 
 -- ---- fields by their own lengths: a tag, two bytes of length, low byte first, and the content
@@ -80,12 +79,12 @@ is_broken o = eqb (number o) 1 || (eqb (number o) 10 || eqb (number o) 11)
 abbrev pub own_record : List ℕ → List ℕ
 own_record b =
     let r = request b in
-    cond r.numbered (numbered_record r.size r.method (contracts_of b) (entries_of b)) (matrix_record r.size r.method (entries_of b))
+    cond (numbered r) (numbered_record r.size r.method (contracts_of b) (entries_of b)) (matrix_record r.size r.method (entries_of b))
 
 pub record BrokenRecord (b out : List ℕ) : Type 0 where
-  pub past_end : length b ≤ longest_record → (i : ℕ) → handed_back b out ≡ FieldPastEnd i ↔ PastEndAt b i
-  pub wrong_tag : length b ≤ longest_record → (i : ℕ) → handed_back b out ≡ TagNotDue i ↔ WrongTagAt b i
-  pub malformed : handed_back b out ≡ MalformedRecord ↔ Malformed b
+  pub past_end : length b ≤ longest_record → (i : ℕ) → handed_back b out ≡ Err (FieldPastEnd i) ↔ PastEndAt b i
+  pub wrong_tag : length b ≤ longest_record → (i : ℕ) → handed_back b out ≡ Err (TagNotDue i) ↔ WrongTagAt b i
+  pub malformed : handed_back b out ≡ Err MalformedRecord ↔ Malformed b
   -- every other list of bytes is a record of one of the two forms
   pub otherwise : AllBelow 256 b → is_broken (handed_back b out) ≡ false ↔ ((length b ≤ longest_record) × (b ≡ own_record b))
 

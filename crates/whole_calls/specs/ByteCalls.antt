@@ -1,9 +1,7 @@
 -- Load order of two whole calls on bytes, the first on a matrix, the second on its reloading: the checks pass both, and what they hand
 -- back, read as doubles, is alike. Proved as `byte_calls` and, with contract numbers, as `numbered_byte_calls` in proofs/ByteCalls.antt.
-use Rattle.std.specs.Prelude.{◌≡◌, true, List, ℕ, ◌*◌, ◌≤◌, length, Float}
-use Rattle.arithmetic.specs.Outcome.{complete}
-use Rattle.arithmetic.specs.declared.outcome.Outcome.{Outcome}
-use Rattle.arithmetic.specs.declared.outcome.Outcome.TheVariants.{Complete}
+use Rattle.std.specs.Prelude.{◌≡◌, true, List, ℕ, ◌*◌, ◌≤◌, length, Float, Ok}
+use Rattle.arithmetic.specs.Outcome.{complete, Outcome}
 use Rattle.matrix.specs.Checks.{Distinct}
 use Rattle.matrix.specs.Matrix.{zeros}
 use Rattle.matrix.specs.Plain.{AllBelow}
@@ -53,8 +51,8 @@ read_bytes c = record { decomposition = c.decomposition; l = doubles c.l; e = do
 
 -- ---- without contract numbers
 pub record ByteCallsAlike (method n : ℕ) (s : List ℕ) (a a' : List Float) (b b' : LentBytes) : Type 0 where
-  pub first : PassesBytes Complete method n a b (called_bytes method n a b)
-  pub second : PassesBytes Complete method n a' b' (called_bytes method n a' b')
+  pub first : PassesBytes (Ok tt) method n a b (called_bytes method n a b)
+  pub second : PassesBytes (Ok tt) method n a' b' (called_bytes method n a' b')
   pub alike : Alike n s (read_bytes (called_bytes method n a b)) (read_bytes (called_bytes method n a' b'))
 
 abbrev pub ByteCallsTheorem : Type 0

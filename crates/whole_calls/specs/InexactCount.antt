@@ -1,7 +1,7 @@
 -- Document 02's count of inexact roots, of calls and records as of runs: at most n, and 0 beside a refusal. With no condition on the operands.
 -- Proved in proofs/InexactCount.antt as `call-count`, `byte_call_count` and `record_count`.
 use Rattle.std.specs.Prelude.{List, ℕ, Float}
-use Rattle.arithmetic.specs.declared.outcome.Outcome.{Outcome}
+use Rattle.arithmetic.specs.Outcome.{Outcome}
 use Rattle.methods.specs.Calls.{call_with}
 use Rattle.results.specs.Results.{Count}
 use Rattle.byte_factor.specs.Factor.{bytes_call_with}

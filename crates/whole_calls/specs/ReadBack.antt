@@ -1,10 +1,9 @@
 -- An answer record read back: its fields in turn, then the result that they say.
-use Rattle.std.specs.Prelude.{cond, List, [], ◌∷◌, ℕ, zero, suc, length, take, drop, get_or, eqb}
-use Rattle.arithmetic.specs.declared.outcome.Outcome.{Outcome}
-use Rattle.arithmetic.specs.declared.outcome.Outcome.TheVariants.{Complete, MalformedRecord, UnknownMethod, SizeOutOfRange, MatrixLength, BufferLength, IndexOutOfRange, NotFinite, Unsymmetric, StoredNotFinite, FieldPastEnd, TagNotDue, NumbersLength, NumberRepeated, ListLength, ZeroDiagonal}
+use Rattle.std.specs.Prelude.{cond, List, [], ◌∷◌, ℕ, zero, suc, length, take, drop, get_or, eqb, Ok, None, Some, Err}
+use Rattle.arithmetic.specs.Outcome.{Outcome}
+use Rattle.arithmetic.specs.declared.refusal.Refusal.TheVariants.{MalformedRecord, UnknownMethod, SizeOutOfRange, MatrixLength, BufferLength, IndexOutOfRange, NotFinite, Unsymmetric, StoredNotFinite, FieldPastEnd, TagNotDue, NumbersLength, NumberRepeated, ListLength, ZeroDiagonal}
 use Rattle.methods.specs.Result.{Result}
-use Rattle.methods.specs.declared.decomposition.Mark.{Mark}
-use Rattle.methods.specs.declared.decomposition.Mark.TheVariants.{Never, Step}
+use Rattle.methods.specs.Marks.{Mark}
 use Rattle.encoding.specs.Bytes.{low_first, doubles}
 
 pub record Field : Type 0 where
@@ -29,10 +28,10 @@ byte_of tag k fs = get_or (content_of tag fs) k 0
 -- what a refusal number and a place name
 abbrev pub outcome_read : ℕ → ℕ → ℕ → Outcome
 outcome_read refusal row column =
-    get_or (Complete ∷ MalformedRecord ∷ UnknownMethod ∷ SizeOutOfRange ∷ MatrixLength ∷ BufferLength ∷ IndexOutOfRange row ∷ NotFinite row column ∷ Unsymmetric row column ∷ StoredNotFinite row ∷ FieldPastEnd row ∷ TagNotDue row ∷ NumbersLength ∷ NumberRepeated row ∷ ListLength ∷ ZeroDiagonal row ∷ []) refusal Complete
+    get_or (Ok tt ∷ Err MalformedRecord ∷ Err UnknownMethod ∷ Err SizeOutOfRange ∷ Err MatrixLength ∷ Err BufferLength ∷ Err (IndexOutOfRange row) ∷ Err (NotFinite row column) ∷ Err (Unsymmetric row column) ∷ Err (StoredNotFinite row) ∷ Err (FieldPastEnd row) ∷ Err (TagNotDue row) ∷ Err NumbersLength ∷ Err (NumberRepeated row) ∷ Err ListLength ∷ Err (ZeroDiagonal row) ∷ []) refusal (Ok tt)
 
 abbrev pub mark_read : ℕ → Mark
-mark_read v = cond (eqb v 0xff) Never (Step v)
+mark_read v = cond (eqb v 0xff) None (Some v)
 
 abbrev pub result_read : List Field → Result
 result_read fs = record {

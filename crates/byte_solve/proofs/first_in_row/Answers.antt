@@ -1,20 +1,23 @@
 use borrow.Author.Rules.{rules}
-use mathlib.Core.Path.{◌≡◌, sym, ap, ◌∙◌}
-use mathlib.Core.Bool.{not}
+use borrow.Author.Tests.{tests}
+use mathlib.Core.Path.{◌≡◌, refl, ◌∙◌}
+use mathlib.Core.Bool.{Bool, not}
+use Prim.Native.Nat.{ℕ, ◌+◌}
+use native.Mathlib.Nat.{sub-zero}
 use lib.Ieee.Scale.{finite}
-use Rattle.matrix.proofs.CheckLaws.{search_found, search_turn, search_end}
-use Rattle.byte_solve.proofs.first_in_row.Invariants.{bad}
+use Rattle.std.proofs.lemmas.Iterator.{YieldsList-from_range}
+use Rattle.std.proofs.lemmas.Iterator.Search.{position_from_yields_List}
+use Rattle.std.specs.List.{range_with_len, position}
+use Rattle.matrix.specs.Matrix.{at}
+use Rattle.encoding.specs.Bytes.{doubles}
+use Rattle.encoding.proofs.Searches.{range-search}
 use Rattle.byte_solve.proofs.first_in_row.Goals as goal
 
-pub returns-then-not-finite_pattern : goal.returns-then-not-finite_pattern
-returns-then-not-finite_pattern c =
-    let tests : bad c.args.n c.args.l.now c.args.i c.loop-j.j ≡ not c.finite_pattern.result = ap not (sym (c.finite_pattern.ensures ∙ ap finite c.pattern.ensures)) in
-    sym (c.loop-j.invariant.1 ∙ search_found _ _ _ c.loop-j-test.true (tests ∙ (ap not c.if-not-finite_pattern.true)))
-
-pub loop-j-preserved : goal.loop-j-preserved
-loop-j-preserved c =
-    let tests : bad c.args.n c.args.l.now c.args.i c.loop-j.j ≡ not c.finite_pattern.result = ap not (sym (c.finite_pattern.ensures ∙ ap finite c.pattern.ensures)) in
-    (search rules, c.loop-j.invariant.1 ∙ search_turn _ _ _ c.loop-j-test.true (tests ∙ (ap not c.if-not-finite_pattern.false)))
-
 pub returns : goal.returns
-returns c = let l = c.loop-j in sym (l.invariant.1 ∙ search_end _ _ _ l.invariant.0 c.loop-j-test.false)
+returns c =
+    let a = c.args in
+    let end = a.i + 1 in
+    let bad : ℕ → Bool = λ j. not (finite (at a.n (doubles a.l.now) a.i j)) in
+    let found : c.position.result ≡ position bad (range_with_len 0 end) =
+    position_from_yields_List bad _ _ _ c.position.ensures.ran (YieldsList-from_range 0 end end refl (sub-zero end)) (λ x t q h. search (rules, tests)) in
+    c.unwrap_or.ensures ∙ range-search bad bad end found (λ j h. refl)

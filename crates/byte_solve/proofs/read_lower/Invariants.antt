@@ -1,10 +1,6 @@
-use Prim.Native.Nat.{◌-◌}
 use Rattle.encoding.specs.Bytes.{doubles}
 use Rattle.byte_solve.proofs.LowerRead.{RowsRead}
 use Rattle.byte_solve.proofs.read_lower.Given as goal
 
 abbrev pub invariant-loop-i : goal.invariant-loop-i
 invariant-loop-i l = RowsRead l.n l.i (doubles l.l) l.initial.a l.a
-
-abbrev pub decreases-loop-i : goal.decreases-loop-i
-decreases-loop-i l = l.n - l.i

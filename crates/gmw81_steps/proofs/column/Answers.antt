@@ -4,10 +4,10 @@ use Rattle.methods.proofs.GmwLaws.{column-is}
 use Rattle.gmw81_steps.proofs.column.Goals as goal
 
 pub loop-i-preserved : goal.loop-i-preserved
-loop-i-preserved c = (counting_turn c.loop-i.invariant.0 (search rules) (rw (c.put.ensures, c.dot.ensures, c.get.ensures)), search rules)
+loop-i-preserved c = counting_turn c.loop-i.invariant (search rules) (rw (c.put.ensures, c.dot.ensures, c.get.ensures))
 
 pub loop-i-init : goal.loop-i-init
-loop-i-init c = (counting_start (search rules), search rules)
+loop-i-init c = counting_start (search rules)
 
 pub returns : goal.returns
 returns c = search (loops, column-is)

@@ -1,6 +1,3 @@
-use mathlib.Core.Path.{◌≡◌}
-use Prim.Native.Nat.{◌-◌}
-use lib.ListN.{length}
 use Rattle.arithmetic.specs.Double.{◌⊖◌}
 use Rattle.arithmetic.proofs.Counting.{Counting}
 use Rattle.matrix.specs.Matrix.{at, put}
@@ -8,7 +5,4 @@ use Rattle.methods.specs.Gmw81.{dot}
 use Rattle.gmw81_steps.proofs.column.Given as goal
 
 abbrev pub invariant-loop-i : goal.invariant-loop-i
-invariant-loop-i l = Counting l.j l.n l.i (λ k m. put l.n m k l.j (at l.n l.l k l.j ⊖ dot l.n l.j l.l m k)) l.initial.c l.c × (length l.c ≡ length l.initial.c)
-
-abbrev pub decreases-loop-i : goal.decreases-loop-i
-decreases-loop-i l = l.n - l.i
+invariant-loop-i l = Counting l.j l.n l.i (λ k m. put l.n m k l.j (at l.n l.l k l.j ⊖ dot l.n l.j l.l m k)) l.initial.c l.c

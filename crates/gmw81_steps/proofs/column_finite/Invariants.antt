@@ -1,4 +1,3 @@
-use Prim.Native.Nat.{◌-◌}
 use lib.Ieee.Scale.{finite}
 use Rattle.arithmetic.proofs.AllLaws.{and_test}
 use Rattle.arithmetic.proofs.Counting.{Counting}
@@ -7,6 +6,3 @@ use Rattle.gmw81_steps.proofs.column_finite.Given as goal
 
 abbrev pub invariant-loop-i : goal.invariant-loop-i
 invariant-loop-i l = Counting l.j l.n l.i (and_test (λ k. finite (at l.n l.c k l.j))) l.initial.ok l.ok
-
-abbrev pub decreases-loop-i : goal.decreases-loop-i
-decreases-loop-i l = l.n - l.i

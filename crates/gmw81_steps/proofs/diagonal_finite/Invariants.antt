@@ -1,4 +1,4 @@
-use Prim.Native.Nat.{◌-◌}
+use Prim.Native.Nat.{◌+◌}
 use lib.Ieee.Scale.{finite}
 use Rattle.arithmetic.proofs.AllLaws.{and_test}
 use Rattle.arithmetic.proofs.Counting.{Counting}
@@ -6,7 +6,4 @@ use Rattle.matrix.specs.Matrix.{at}
 use Rattle.gmw81_steps.proofs.diagonal_finite.Given as goal
 
 abbrev pub invariant-loop-i : goal.invariant-loop-i
-invariant-loop-i l = Counting l.a l.n l.i (and_test (λ k. finite (at l.n l.c k k))) l.initial.ok l.ok
-
-abbrev pub decreases-loop-i : goal.decreases-loop-i
-decreases-loop-i l = l.n - l.i
+invariant-loop-i l = Counting (l.j + 1) l.n l.i (and_test (λ k. finite (at l.n l.c k k))) l.initial.ok l.ok

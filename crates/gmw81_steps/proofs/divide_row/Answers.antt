@@ -4,7 +4,7 @@ use Rattle.methods.proofs.GmwLaws.{divided_is}
 use Rattle.gmw81_steps.proofs.divide_row.Goals as goal
 
 pub loop-s-preserved : goal.loop-s-preserved
-loop-s-preserved c = (counting_turn c.loop-s.invariant.0 (search rules) (rw (c.put.ensures, c.get.ensures)), search rules)
+loop-s-preserved c = counting_turn c.loop-s.invariant (search rules) (rw (c.put.ensures, c.get.ensures))
 
 pub loop-s-init : goal.loop-s-init
 loop-s-init c = search loops

@@ -1,5 +1,5 @@
-use mathlib.Core.Path.{◌≡◌, sym, ap, ◌∙◌}
-use mathlib.Core.Bool.{Bool, true, false}
+use mathlib.Core.Path.{◌≡◌, ap}
+use mathlib.Core.Bool.{true, false}
 use mathlib.Core.List.{List}
 use Prim.Native.Nat.{ℕ}
 use native.Mathlib.Omega.{arith}
@@ -12,22 +12,23 @@ use Rattle.methods.specs.declared.progress.Progress.{Progress}
 use Rattle.methods.specs.declared.progress.Stores.{Stores}
 use Rattle.methods.proofs.Counts.{inexact_roots-most}
 use Rattle.methods.proofs.GmwLaws.{finish-stays, finish-goes}
+use Rattle.methods.proofs.MarkLaws.{marked-is}
 use Rattle.gmw81_steps.proofs.finish.Goals as goal
 
-stays : (n : ℕ) (l c d e : List Float) (p : List ℕ) (r : Progress) (b : Bool) → b ≡ marked r.refused → b ≡ true → Finished n l c d e p r l e r
-stays n l c d e p r b em eb =
-    let h : finish n (state l c d e p r) ≡ state l c d e p r = finish-stays n (state l c d e p r) (sym em ∙ eb) in
+stays : (n : ℕ) (l c d e : List Float) (p : List ℕ) (r : Progress) → marked r.refused ≡ true → Finished n l c d e p r l e r
+stays n l c d e p r m =
+    let h : finish n (state l c d e p r) ≡ state l c d e p r = finish-stays n (state l c d e p r) m in
     record { l_is = rw h; e_is = rw h; progress_is = rw h }
 
-goes : (n : ℕ) (l c d e : List Float) (p : List ℕ) (r : Progress) (b : Bool) (w : Stores) (l' e' : List Float) (q : Progress) → b ≡ marked r.refused → b ≡ false
+goes : (n : ℕ) (l c d e : List Float) (p : List ℕ) (r : Progress) (w : Stores) (l' e' : List Float) (q : Progress) → marked r.refused ≡ false
     → (l' ≡ product n (unit_lower n l) (dout_of n d)) × (w ≡ stores (scaled_finite n (dout_of n d) (product n (unit_lower n l) (dout_of n d))) (inexact_roots n d)) → e' ≡ reorder n p e
     → q ≡ stored w.ok n (counted w.inexact r) → Finished n l c d e p r l' e' q
-goes n l c d e p r b w l' e' q em eb es ee er =
-    let h = finish-goes n (state l c d e p r) (sym em ∙ eb) in
+goes n l c d e p r w l' e' q m es ee er =
+    let h = finish-goes n (state l c d e p r) m in
     record { l_is = rw (h, es.0); e_is = rw (h, ee); progress_is = rw (h, er, es.1) }
 
-pub returns-then-marked : goal.returns-then-marked
-returns-then-marked c = λ w. stays _ _ w _ _ _ _ _ c.marked.ensures c.if-marked.true
+pub returns-then-is_some : goal.returns-then-is_some
+returns-then-is_some c = λ w. stays _ _ w _ _ _ _ (marked-is c.args.r.refused c.if-is_some.ensures)
 
 pub rooted-requires : goal.rooted-requires
 rooted-requires c =
@@ -37,5 +38,5 @@ rooted-requires c =
 pub returns : goal.returns
 returns c =
     let a = c.args in
-    λ w. goes a.n a.l.now w a.d.now a.e.now a.p.now a.r _ _ _ _ _
-    c.marked.ensures c.if-marked.false (c.scale-stores.ensures.l_after, c.scale-stores.ensures.value) c.reorder.ensures c.rooted.ensures
+    λ w. goes a.n a.l.now w a.d.now a.e.now a.p.now a.r _ _ _ _
+    (marked-is a.r.refused c.if-is_some.ensures) (c.scale-stores.ensures.l_after, c.scale-stores.ensures.value) c.reorder.ensures c.rooted.ensures

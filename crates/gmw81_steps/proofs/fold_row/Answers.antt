@@ -4,7 +4,7 @@ use Rattle.methods.proofs.GmwLaws.{row_is}
 use Rattle.gmw81_steps.proofs.fold_row.Goals as goal
 
 pub loop-k-preserved : goal.loop-k-preserved
-loop-k-preserved c = counting_turn c.loop-k.invariant (search rules) c.fold_off_diagonal-out.ensures
+loop-k-preserved c = counting_turn c.loop-k.invariant (search rules) c.fold_off_diagonal-acc.ensures
 
 pub loop-k-init : goal.loop-k-init
 loop-k-init c = search loops

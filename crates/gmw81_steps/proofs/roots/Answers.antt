@@ -14,19 +14,19 @@ use Rattle.methods.specs.Progress.{one_if}
 use Rattle.methods.proofs.Counts.{one-most, roots_most}
 use Rattle.gmw81_steps.proofs.roots.Goals as goal
 
-pub loop-i-init : goal.loop-i-init
-loop-i-init c = (search fillings, loop_start 0 _ _)
+pub loop-x-init : goal.loop-x-init
+loop-x-init c = (search fillings, loop_start 0 _ _)
 
 pub overflow_add-inexact : goal.overflow_add-inexact
 overflow_add-inexact c =
-    let s = c.loop-i in
-    omega (arith, c.one_if-inexact.ensures, one-most c.sqrt_flagged-root.result.inexact, s.invariant.1, roots_most c.args.d.now s.i, c.loop-i-test.true)
+    let s = c.loop-x in
+    omega (arith, c.one_if-inexact.ensures, one-most c.sqrt_flagged-root.result.inexact, s.invariant.1, roots_most c.args.d.now s.x-index, c.loop-x-test.true)
 
-pub loop-i-preserved : goal.loop-i-preserved
-loop-i-preserved c =
-    let s = c.loop-i in
+pub loop-x-preserved : goal.loop-x-preserved
+loop-x-preserved c =
+    let s = c.loop-x in
     let f = c.sqrt_flagged-root.ensures in
-    let same = s.invariant.0.rest s.i (omega arith) in (
+    let same = s.invariant.0.rest s.x-index (omega arith) in (
       filling_turn s.invariant.0 (search rules) (omega arith) (rw (ap (λ (u : Rounded). u.value) f, same)),
       loop_turn 0 _ _ _ _ _ zero-le s.invariant.1 (ap (λ (k : ℕ). s.inexact + k) (c.one_if-inexact.ensures ∙ ap one_if (ap (λ (u : Rounded). u.inexact) f ∙ ap inexact same))),
     )
@@ -36,4 +36,4 @@ unfolding inexact_roots
 all-counted d i n k h l e = loop_end 0 i n (count_root d) 0 k h l e
 
 pub returns : goal.returns
-returns c = let s = c.loop-i in record { d_after = search fillings; value = all-counted _ _ _ _ s.invariant.0.high (search rules) s.invariant.1 }
+returns c = let s = c.loop-x in record { d_after = search fillings; value = all-counted _ _ _ _ s.invariant.0.high (search rules) s.invariant.1 }

@@ -1,4 +1,3 @@
-use Prim.Native.Nat.{◌-◌}
 use lib.Ieee.Scale.{finite}
 use Rattle.arithmetic.proofs.AllLaws.{and_test}
 use Rattle.arithmetic.proofs.Counting.{Counting}
@@ -7,6 +6,3 @@ use Rattle.gmw81_steps.proofs.row_before_finite.Given as goal
 
 abbrev pub invariant-loop-s : goal.invariant-loop-s
 invariant-loop-s l = Counting 0 l.j l.s (and_test (λ k. finite (at l.n l.l l.j k))) l.initial.ok l.ok
-
-abbrev pub decreases-loop-s : goal.decreases-loop-s
-decreases-loop-s l = l.j - l.s

@@ -38,4 +38,4 @@ pub returns : goal.returns
 returns c = let h = scaled c.args.n c.args.l.now c.args.d.now _ _ _ _ _ _ _ _ c.requires.d_len.1 c.requires.d_len.0 (record { entries = c.requires.square.len; each = c.requires.all_finite })
     (omega (arith, c.scale_rows.auto, c.lower_triangle.auto, c.unit_diagonal.auto, c.requires.square))
     c.roots-inexact.ensures.d_after c.unit_diagonal.ensures c.lower_triangle.ensures c.scale_rows.ensures
-    c.list_finite.ensures c.list_finite-2.ensures c.both.ensures c.roots-inexact.ensures.value in record { l_after = h.0; value = h.1 }
+    c.list_finite.ensures c.list_finite-2.ensures refl c.roots-inexact.ensures.value in record { l_after = h.0; value = h.1 }

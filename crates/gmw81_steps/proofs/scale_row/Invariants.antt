@@ -1,6 +1,4 @@
-use mathlib.Core.Path.{◌≡◌}
-use Prim.Native.Nat.{◌-◌}
-use lib.ListN.{get_or, length}
+use lib.ListN.{get_or}
 use lib.Ieee.{nan}
 use Rattle.arithmetic.specs.Double.{plus_zero, ◌⊕◌, ◌⊗◌}
 use Rattle.arithmetic.proofs.Counting.{Counting}
@@ -8,7 +6,4 @@ use Rattle.matrix.specs.Matrix.{at, put}
 use Rattle.gmw81_steps.proofs.scale_row.Given as goal
 
 abbrev pub invariant-loop-k : goal.invariant-loop-k
-invariant-loop-k l = Counting 0 l.n l.k (λ u m. put l.n m l.i u (plus_zero ⊕ at l.n m l.i u ⊗ get_or l.r u nan)) l.initial.l l.l × (length l.l ≡ length l.initial.l)
-
-abbrev pub decreases-loop-k : goal.decreases-loop-k
-decreases-loop-k l = l.n - l.k
+invariant-loop-k l = Counting 0 l.n l.k (λ u m. put l.n m l.i u (plus_zero ⊕ at l.n m l.i u ⊗ get_or l.r u nan)) l.initial.l l.l

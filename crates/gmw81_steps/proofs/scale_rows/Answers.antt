@@ -3,7 +3,7 @@ use Rattle.arithmetic.proofs.Counting.{counting_turn, loops}
 use Rattle.gmw81_steps.proofs.scale_rows.Goals as goal
 
 pub loop-i-preserved : goal.loop-i-preserved
-loop-i-preserved c = (counting_turn c.loop-i.invariant.0 (search rules) c.scale_row.ensures, search rules)
+loop-i-preserved c = counting_turn c.loop-i.invariant (search rules) c.scale_row.ensures
 
 pub loop-i-init : goal.loop-i-init
 loop-i-init c = search loops

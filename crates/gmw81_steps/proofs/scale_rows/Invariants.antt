@@ -1,6 +1,4 @@
-use mathlib.Core.Path.{◌≡◌}
-use Prim.Native.Nat.{◌-◌}
-use lib.ListN.{get_or, length}
+use lib.ListN.{get_or}
 use lib.Ieee.{nan}
 use Rattle.arithmetic.specs.Double.{plus_zero, ◌⊕◌, ◌⊗◌}
 use Rattle.arithmetic.specs.Loop.{range}
@@ -9,7 +7,4 @@ use Rattle.matrix.specs.Matrix.{at, put}
 use Rattle.gmw81_steps.proofs.scale_rows.Given as goal
 
 abbrev pub invariant-loop-i : goal.invariant-loop-i
-invariant-loop-i l = Counting 0 l.n l.i (λ x. range 0 l.n (λ k m. put l.n m x k (plus_zero ⊕ at l.n m x k ⊗ get_or l.r k nan))) l.initial.l l.l × (length l.l ≡ length l.initial.l)
-
-abbrev pub decreases-loop-i : goal.decreases-loop-i
-decreases-loop-i l = l.n - l.i
+invariant-loop-i l = Counting 0 l.n l.i (λ x. range 0 l.n (λ k m. put l.n m x k (plus_zero ⊕ at l.n m x k ⊗ get_or l.r k nan))) l.initial.l l.l

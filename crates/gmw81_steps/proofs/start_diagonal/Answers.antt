@@ -4,10 +4,10 @@ use Rattle.methods.proofs.GmwLaws.{start_is}
 use Rattle.gmw81_steps.proofs.start_diagonal.Goals as goal
 
 pub loop-i-preserved : goal.loop-i-preserved
-loop-i-preserved c = (counting_turn c.loop-i.invariant.0 (search rules) (rw (c.put.ensures, c.get.ensures)), search rules)
+loop-i-preserved c = counting_turn c.loop-i.invariant (search rules) (rw (c.put.ensures, c.get.ensures))
 
 pub returns : goal.returns
-returns c = rw (start_is, ← c.requires.c_value) (counting_end c.loop-i.invariant.0 (search rules))
+returns c = rw (start_is, ← c.requires.c_value) (counting_end c.loop-i.invariant (search rules))
 
 pub loop-i-init : goal.loop-i-init
 loop-i-init c = search loops

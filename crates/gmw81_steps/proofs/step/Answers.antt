@@ -18,11 +18,10 @@ goes numbers n delta beta j s t f b em eb ef et = et ∙ rw ef (sym (step-goes n
 pub returns-then-stopped : goal.returns-then-stopped
 returns-then-stopped c = sym (step_stays _ _ _ _ _ _ (sym c.stopped.ensures ∙ c.if-stopped.true))
 
-pub step_at-requires : goal.step_at-requires
-step_at-requires c =
-    let a = c.args in record { square = c.requires.square; square_2 = c.requires.square_2; d_len = (c.requires.d_len.0, c.requires.d_len.1, c.requires.d_len.2); max_idx_bound = picked_below _ _ _ _ _ _ _ c.search_diagonal-f.ensures (length-diagonal a.n a.c.now) c.requires.j_lt_n }
+pub step_at-requires-clause-max_idx_bound : goal.step_at-requires-clause-max_idx_bound
+step_at-requires-clause-max_idx_bound c = picked_below _ _ _ _ _ _ _ c.search_diagonal-f.ensures (length-diagonal c.args.n c.args.c.now) c.requires.j_lt_n
 
 pub returns : goal.returns
 returns c =
     let a = c.args in
-    goes a.numbers.now a.n a.delta a.beta a.j (state a.l.now a.c.now a.d.now a.e.now a.p.now a.r) _ _ _ c.stopped.ensures c.if-stopped.false c.search_diagonal-f.ensures c.step_at.ensures
+    goes a.numbers.now a.n a.bounds.delta a.bounds.beta a.j (state a.l.now a.c.now a.d.now a.e.now a.p.now a.r) _ c.search_diagonal-f.result c.stopped.result c.stopped.ensures c.if-stopped.false c.search_diagonal-f.ensures c.step_at.ensures

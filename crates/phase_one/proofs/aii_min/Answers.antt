@@ -1,15 +1,14 @@
+use mathlib.Core.Path.{refl}
 use borrow.Author.Rules.{rules}
-use Rattle.arithmetic.proofs.Counting.{counting_start, counting_turn, counting_end}
-use Rattle.methods.specs.Se.{aii_min}
-use Rattle.methods.proofs.SeLaws.{infinity_is}
+use borrow.Author.Tests.{tests}
+use Rattle.std.proofs.lemmas.Iterator.{YieldsList-from_range, YieldsList-from_map}
+use Rattle.std.proofs.lemmas.Iterator.Consumers.{fold_from_yields_List}
+use Rattle.matrix.specs.Matrix.{at}
+use Rattle.phase_one.proofs.Folds.{smaller, aii_min-is}
 use Rattle.phase_one.proofs.aii_min.Goals as goal
 
-pub loop-i-preserved : goal.loop-i-preserved
-loop-i-preserved c = counting_turn c.loop-i.invariant (search rules) (rw (c.smaller-acc.ensures, c.get.ensures))
-
 pub returns : goal.returns
-unfolding aii_min
-returns c = rw (← infinity_is) (counting_end c.loop-i.invariant (search rules))
-
-pub loop-i-init : goal.loop-i-init
-loop-i-init c = counting_start (search rules)
+returns c =
+    let a = c.args in
+    let m = c.map.ensures in
+    aii_min-is a.n a.j a.l.now (search rules) (fold_from_yields_List _ smaller _ _ c.fold.ensures.ran (YieldsList-from_map _ (λ i. at a.n a.l.now i i) (YieldsList-from_range _ _ _ m.source refl) m.closure (λ x r q k. search rules)) (λ acc x r q h. search (rules, tests)))

@@ -1,15 +1,11 @@
+use mathlib.Core.Path.{refl}
+use native.Mathlib.Omega.{arith}
 use borrow.Author.Rules.{rules}
-use Rattle.arithmetic.proofs.Counting.{counting_start, counting_turn, counting_end}
-use Rattle.methods.specs.Se.{tmp_of}
-use Rattle.methods.proofs.SeLaws.{infinity_is}
+use Rattle.std.proofs.lemmas.Iterator.{YieldsList-from_range}
+use Rattle.std.proofs.lemmas.Iterator.Consumers.{fold_from_yields_List}
+use Rattle.methods.specs.Se.{fold_next}
+use Rattle.phase_one.proofs.Folds.{tmp_of-is}
 use Rattle.phase_one.proofs.tmp_of.Goals as goal
 
-pub loop-i-preserved : goal.loop-i-preserved
-loop-i-preserved c = counting_turn c.loop-i.invariant (search rules) c.fold_next-acc.ensures
-
 pub returns : goal.returns
-unfolding tmp_of
-returns c = rw (← infinity_is) (counting_end c.loop-i.invariant (search rules))
-
-pub loop-i-init : goal.loop-i-init
-loop-i-init c = counting_start (search rules)
+returns c = let a = c.args in tmp_of-is _ _ _ (omega arith) (fold_from_yields_List _ (λ acc i. fold_next a.n a.j a.l.now i acc) _ _ c.fold.ensures.ran (YieldsList-from_range _ _ _ refl refl) (λ acc i r q h. search rules))

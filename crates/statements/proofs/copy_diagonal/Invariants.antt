@@ -1,4 +1,3 @@
-use Prim.Native.Nat.{◌-◌}
 use lib.Ieee.{nan}
 use Rattle.matrix.specs.Matrix.{at}
 use Rattle.matrix.proofs.Filled.{Filling}
@@ -6,6 +5,3 @@ use Rattle.statements.proofs.copy_diagonal.Given as goal
 
 abbrev pub invariant-loop-i : goal.invariant-loop-i
 invariant-loop-i l = Filling nan (λ k. at l.n l.m k k) l.j l.n l.i l.initial.diag l.diag
-
-abbrev pub decreases-loop-i : goal.decreases-loop-i
-decreases-loop-i l = l.n - l.i

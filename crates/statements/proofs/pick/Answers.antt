@@ -5,6 +5,7 @@ use mathlib.Core.Bool.{Bool}
 use mathlib.Core.List.{List}
 use Prim.Native.Nat.{ℕ, ◌+◌, ◌-◌, ◌<◌}
 use native.Mathlib.Omega.{arith}
+use Rattle.std.proofs.lemmas.Grind.{common_steps}
 use lib.ListN.{length, take, drop, length-drop}
 use lib.Seq.{take_all}
 use lib.Ieee.{Float}
@@ -34,15 +35,15 @@ module _ (numbers p : List ℕ) (magnitude : Bool) (values : List Float) (j : �
   candidate : j < length values → f.index < length (take (length values - j) (drop j values))
   candidate h = rw (rest j values, is_largest) (largest-top magnitude (drop j values) (omega (arith, length-drop j values))).below
 
-pub returns-then-numbers-eq0 : goal.returns-then-numbers-eq0
-returns-then-numbers-eq0 c = let a = c.args in first a.numbers.now a.p.now a.magnitude a.values.now a.j _ c.largest-found.ensures c.if-numbers-eq0.true
+pub returns-then-is_empty : goal.returns-then-is_empty
+returns-then-is_empty c = let a = c.args in first a.numbers.now a.p.now a.magnitude a.values.now a.j _ c.largest-found.ensures (grind (arith, common_steps))
 
 pub returns : goal.returns
 returns c =
     let a = c.args in
-    smallest a.numbers.now a.p.now a.magnitude a.values.now a.j _ c.largest-found.ensures c.if-numbers-eq0.false _ c.smallest_number-index.ensures
+    smallest a.numbers.now a.p.now a.magnitude a.values.now a.j _ c.largest-found.ensures (grind (arith, common_steps)) _ c.smallest_number.ensures
 
-pub smallest_number-index-requires : goal.smallest_number-index-requires
-smallest_number-index-requires c =
+pub smallest_number-requires : goal.smallest_number-requires
+smallest_number-requires c =
     let a = c.args in
     (candidate a.numbers.now a.p.now a.magnitude a.values.now a.j _ c.largest-found.ensures (search rules), search rules)

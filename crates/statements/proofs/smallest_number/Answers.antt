@@ -14,7 +14,7 @@ use Rattle.methods.proofs.Pivots.{look-below}
 use Rattle.statements.proofs.smallest_number.Goals as goal
 
 pub loop-i-init : goal.loop-i-init
-loop-i-init c = (search rules, search rules, loop_start _ _ _)
+loop-i-init c = (search rules, loop_start _ _ _)
 
 -- one candidate, each value named
 module _ (numbers p : List ℕ) (j : ℕ) (magnitude : Bool) (c : List Float) (first i best : ℕ) where
@@ -36,11 +36,11 @@ loop-i-preserved c =
     let a = c.args in
     let e = looked a.numbers.now a.p.now a.j a.magnitude a.c.now a.first l.i l.best _ _ _ c.look_number-best.ensures
     c.key-largest.ensures c.key.ensures in
-    (search rules, looked_below a.numbers.now a.p.now a.j a.magnitude a.c.now a.first l.i l.best _ _ (search rules) l.invariant.1 e, loop_turn 0 _ _ _ _ _ zero-le l.invariant.2 e)
+    (looked_below a.numbers.now a.p.now a.j a.magnitude a.c.now a.first l.i l.best _ _ (search rules) l.invariant.0 e, loop_turn 0 _ _ _ _ _ zero-le l.invariant.1 e)
 
 smallest : (number : ℕ → ℕ) (magnitude : Bool) (c : List Float) (first best : ℕ) → best ≡ range 0 (length c) (look_number (tied_with magnitude c first) number) first → best ≡ smallest_number number magnitude c first
 unfolding smallest_number
 smallest number magnitude c first best e = e
 
 pub returns : goal.returns
-returns c = smallest _ _ _ _ _ (loop_end 0 _ _ _ _ _ c.loop-i.invariant.0 (search rules) c.loop-i.invariant.2)
+returns c = smallest _ _ _ _ _ (loop_end 0 _ _ _ _ _ (search rules) (search rules) c.loop-i.invariant.1)

@@ -8,7 +8,7 @@ loop-i-init c = (put-start _ c.requires.mat_len.0 c.clear_bytes.ensures, search 
 
 pub loop-i-preserved : goal.loop-i-preserved
 unfolding put_one
-loop-i-preserved c = (put-turn _ _ _ c.loop-i.invariant.0 c.loop-i-test.true c.cell.ensures.1 (λ m. rw (c.cell.ensures.0, c.whole.ensures)) one-bits c.write_number.ensures.0, search rules)
+loop-i-preserved c = (put-turn _ _ _ c.loop-i.invariant.0 (search rules) c.cell.ensures.1 (λ m. rw (c.cell.ensures.0, c.from.ensures)) one-bits c.write_number.ensures.0, search rules)
 
 pub returns : goal.returns
 unfolding index_to_permutation_mat

@@ -1,5 +1,4 @@
 use mathlib.Core.Path.{◌≡◌}
-use Prim.Native.Nat.{◌-◌}
 use lib.ListN.{length}
 use Rattle.matrix.specs.Plain.{put_one}
 use Rattle.byte_helpers.proofs.PlainBytes.{Put}
@@ -7,6 +6,3 @@ use Rattle.byte_helpers.proofs.plain.index_to_permutation_mat_unchecked.Given as
 
 abbrev pub invariant-loop-i : goal.invariant-loop-i
 invariant-loop-i l = Put l.n l.i (put_one l.idxs) l.mat × (length l.mat ≡ length l.initial.mat)
-
-abbrev pub decreases-loop-i : goal.decreases-loop-i
-decreases-loop-i l = l.n - l.i

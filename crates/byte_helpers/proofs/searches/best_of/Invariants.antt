@@ -1,4 +1,3 @@
-use Prim.Native.Nat.{◌-◌}
 use Rattle.arithmetic.proofs.Counting.{Counting}
 use Rattle.matrix.specs.Search.{look}
 use Rattle.encoding.specs.Bytes.{doubles}
@@ -6,6 +5,3 @@ use Rattle.byte_helpers.proofs.searches.best_of.Given as goal
 
 abbrev pub invariant-loop-i : goal.invariant-loop-i
 invariant-loop-i l = Counting 0 l.n l.i (look l.magnitude (doubles l.c)) l.initial.s l.s
-
-abbrev pub decreases-loop-i : goal.decreases-loop-i
-decreases-loop-i l = l.n - l.i

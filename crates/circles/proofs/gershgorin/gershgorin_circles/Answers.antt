@@ -1,5 +1,3 @@
-use mathlib.Core.Bool.{not}
-use mathlib.Core.Path.{ap}
 use mathlib.Core.List.{List}
 use mathlib.Core.Path.{◌≡◌}
 use Prim.Native.Nat.{ℕ}
@@ -7,11 +5,10 @@ use lib.ListN.{length}
 use lib.Ieee.{Float}
 use Rattle.matrix.specs.Matrix.{Square}
 use Rattle.circles.specs.Circles.{circle_checks}
-use Rattle.matrix.proofs.CheckLaws.{Accepted, accepted, both_accepted, size_accepted, matrix-accepted, buffer_accepted}
+use Rattle.matrix.proofs.CheckLaws.{Accepted, passed, both_accepted, size_accepted, matrix-accepted, buffer_accepted}
 use Rattle.circles.proofs.gershgorin.gershgorin_circles.Goals as goal
 
 circles-accepted : (n : ℕ) (mat : List Float) (centres radii : ℕ) → Accepted (circle_checks n mat centres radii) → Square n mat × ((centres ≡ n) × (radii ≡ n))
-unfolding circle_checks
 circles-accepted n mat centres radii h =
     let f = both_accepted _ _ h in
     let r = both_accepted _ _ f.0 in
@@ -21,4 +18,4 @@ circles-accepted n mat centres radii h =
 
 pub gershgorin_circles_unchecked-requires : goal.gershgorin_circles_unchecked-requires
 gershgorin_circles_unchecked-requires c =
-    let b = c.before.before in let h = circles-accepted _ _ _ _ (accepted b.circle_checks-outcome.ensures b.complete.ensures (ap not b.if-not-complete.false)) in record { square = h.0; centres_len = h.1 }
+    let h = circles-accepted _ _ _ _ (passed c.circle_checks.ensures c.in_ok-circle_checks.was) in record { square = h.0; centres_len = h.1 }

@@ -10,7 +10,8 @@ use lib.Ieee.{Float}
 use Rattle.arithmetic.specs.First.{first}
 use Rattle.arithmetic.specs.Loop.{range}
 use Rattle.arithmetic.proofs.LoopLaws.{loop_start, loop_turn, loop_end}
-use Rattle.arithmetic.specs.declared.outcome.Outcome.TheVariants.{Complete, StoredNotFinite}
+use Rattle.std.specs.Prelude.{Ok, Err}
+use Rattle.arithmetic.specs.declared.refusal.Refusal.TheVariants.{StoredNotFinite}
 use Rattle.matrix.specs.Matrix.{zeros}
 use Rattle.circles.specs.Circles.{overflows, centre, radius, radius_of, set_to, set_each, first_overflow, circles_call, gershgorin_circles}
 use Rattle.circles.specs.declared.gershgorin.Sums.{Sums}
@@ -35,12 +36,12 @@ tested : {s t : Sums} {b v : Bool} → s ≡ t → b ≡ overflows s → b ≡ v
 tested p q e = sym (q ∙ ap overflows p) ∙ e
 
 refused : (n i : ℕ) (mat centres₀ radii₀ centres radii : List Float) → i < n → first (overflowing n mat) n ≡ i → centres ≡ zeros n → radii ≡ zeros n
-    → circles_call (StoredNotFinite i) centres radii ≡ gershgorin_circles n mat centres₀ radii₀
+    → circles_call (Err (StoredNotFinite i)) centres radii ≡ gershgorin_circles n mat centres₀ radii₀
 refused n i mat centres₀ radii₀ centres radii h e p q = rw (first-overflow n mat, e, lt-ltb i n h, p, q)
 
 finished : (n : ℕ) (mat centres₀ radii₀ centres radii : List Float) → first (overflowing n mat) n ≡ n
     → centres ≡ range 0 n (set_to (centre n mat)) centres₀ → radii ≡ range 0 n (set_to (radius n mat)) radii₀
-    → circles_call Complete centres radii ≡ gershgorin_circles n mat centres₀ radii₀
+    → circles_call (Ok tt) centres radii ≡ gershgorin_circles n mat centres₀ radii₀
 finished n mat centres₀ radii₀ centres radii e p q = rw (first-overflow n mat, e, le-ltb n n (le_refl n), set_each-is, set_each-is, p, q)
 
 pub loop-i-init : goal.loop-i-init

@@ -10,14 +10,14 @@ use Rattle.circles.specs.Circles.{add_magnitudes, sums}
 use Rattle.circles.proofs.gershgorin.magnitude_sums.Goals as goal
 
 pub loop-j-init : goal.loop-j-init
-loop-j-init c = (search rules, loop_start _ _ _)
+loop-j-init c = loop_start _ _ _
 
 pub loop-j-preserved : goal.loop-j-preserved
-loop-j-preserved c = (search rules, loop_turn 0 _ _ _ _ _ zero-le c.loop-j.invariant.1 c.add_magnitudes-s.ensures)
+loop-j-preserved c = loop_turn 0 _ _ _ _ _ zero-le c.loop-j.invariant c.add_magnitudes-s.ensures
 
 sums-is : (n : ℕ) (mat : List Float) (i : ℕ) → sums n mat i ≡ range 0 n (add_magnitudes n mat i) (record { ri = plus_zero; ci = plus_zero })
 unfolding sums
 sums-is n mat i = refl
 
 pub returns : goal.returns
-returns c = loop_end 0 _ _ _ _ _ c.loop-j.invariant.0 (search rules) c.loop-j.invariant.1 ∙ sym (sums-is _ _ _)
+returns c = loop_end 0 _ _ _ _ _ (search rules) (search rules) c.loop-j.invariant ∙ sym (sums-is _ _ _)

@@ -1,11 +1,7 @@
 use mathlib.Core.Path.{◌≡◌}
-use Prim.Native.Nat.{◌-◌, ◌≤◌}
 use Rattle.arithmetic.specs.Loop.{range}
 use Rattle.circles.specs.Circles.{add_magnitudes}
 use Rattle.circles.proofs.gershgorin.magnitude_sums.Given as goal
 
 abbrev pub invariant-loop-j : goal.invariant-loop-j
-invariant-loop-j l = (l.j ≤ l.n) × (l.s ≡ range 0 l.j (add_magnitudes l.n l.mat l.i) l.initial.s)
-
-abbrev pub decreases-loop-j : goal.decreases-loop-j
-decreases-loop-j l = l.n - l.j
+invariant-loop-j l = l.s ≡ range 0 l.j (add_magnitudes l.n l.mat l.i) l.initial.s

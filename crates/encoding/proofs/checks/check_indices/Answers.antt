@@ -1,21 +1,26 @@
 use borrow.Author.Rules.{rules}
-use borrow.Author.Tests.{le-leb, lt-leb, lt-ltb, le-ltb}
-use mathlib.Core.Path.{◌∙◌}
-use native.Mathlib.Nat.{le_refl}
-use Rattle.matrix.proofs.CheckLaws.{search_found, search_turn, search_end}
+use borrow.Author.Tests.{tests}
+use mathlib.Core.Path.{◌≡◌, sym, ap, ◌∙◌}
+use mathlib.Core.Bool.{Bool}
+use Prim.Native.Nat.{ℕ}
+use lib.Dec.{leb}
+use Rattle.std.specs.List.{position}
+use Rattle.std.proofs.lemmas.Iterator.{YieldsList-from_slice}
+use Rattle.std.proofs.lemmas.Iterator.Search.{position_from_yields_List}
+use Rattle.arithmetic.specs.declared.refusal.Refusal.TheVariants.{IndexOutOfRange}
+use Rattle.matrix.proofs.CheckLaws.{refused_at, first_refused}
 use Rattle.encoding.proofs.checks.check_indices.Goals as goal
 
-pub returns-then-n-whole : goal.returns-then-n-whole
-returns-then-n-whole c =
-    let l = c.loop-k in
-    let h = c.loop-k-test.true in
-    rw (l.invariant.1 ∙ search_found _ _ _ h (le-leb _ _ (rw c.whole.ensures at c.if-n-whole.true)), lt-ltb _ _ h)
+pub returns-in-Some : goal.returns-in-Some
+returns-in-Some c =
+    let xs = c.args.idxs.now in
+    let bad : ℕ → Bool = λ x. leb c.args.n x in
+    let found : c.position.result ≡ position bad xs = position_from_yields_List bad _ _ c.position.result c.position.ensures.ran (YieldsList-from_slice xs cc) (λ x b q k. search (rules, tests)) in
+    ap (refused_at IndexOutOfRange) (sym c.in-Some.is ∙ found) ∙ first_refused bad xs 0 IndexOutOfRange
 
-pub loop-k-preserved : goal.loop-k-preserved
-loop-k-preserved c =
-    (search rules, c.loop-k.invariant.1 ∙ search_turn _ _ _ c.loop-k-test.true (lt-leb _ _ (rw c.whole.ensures at c.if-n-whole.false)))
-
-pub returns : goal.returns
-returns c =
-    let l = c.loop-k in
-    rw (l.invariant.1 ∙ search_end _ _ _ l.invariant.0 c.loop-k-test.false, le-ltb _ _ (le_refl _))
+pub returns-in-None : goal.returns-in-None
+returns-in-None c =
+    let xs = c.args.idxs.now in
+    let bad : ℕ → Bool = λ x. leb c.args.n x in
+    let found : c.position.result ≡ position bad xs = position_from_yields_List bad _ _ c.position.result c.position.ensures.ran (YieldsList-from_slice xs cc) (λ x b q k. search (rules, tests)) in
+    ap (refused_at IndexOutOfRange) (sym c.in-None.is ∙ found) ∙ first_refused bad xs 0 IndexOutOfRange

@@ -12,7 +12,8 @@ use lib.Arith.{digits_div, digits_mod}
 use lib.Ieee.{Float}
 use Rattle.arithmetic.proofs.FirstLaws.{First, first-is, first_found, first-none}
 use Rattle.arithmetic.specs.First.{first, first_from}
-use Rattle.arithmetic.specs.declared.outcome.Outcome.TheVariants.{Complete, Unsymmetric}
+use Rattle.std.specs.Prelude.{Ok, Err}
+use Rattle.arithmetic.specs.declared.refusal.Refusal.TheVariants.{Unsymmetric}
 use Rattle.matrix.proofs.CellLaws.{cell_lt}
 use Rattle.matrix.specs.Checks.{unsymmetric, first_mismatch, first_unsymmetric, check_symmetric}
 use Rattle.matrix.proofs.CheckLaws.{mismatch, unsymmetric-at}
@@ -63,7 +64,7 @@ module _ (n : ℕ) (m : List Float) (i : ℕ) where
       let e : (i + 1) * n ≡ i * n + n = rw (add-one, suc-mul) in
       rw e (before n (le_refl n) rows (λ t p q. (mismatch_is n m i h).good t p (omega arith)))
 
-  found : i < n → ((k : ℕ) → k < i * n → unsymmetric n m k ≡ false) → first_mismatch n m i < n → Unsymmetric i (first_mismatch n m i) ≡ check_symmetric n m
+  found : i < n → ((k : ℕ) → k < i * n → unsymmetric n m k ≡ false) → first_mismatch n m i < n → Err (Unsymmetric i (first_mismatch n m i)) ≡ check_symmetric n m
   found h rows l =
       let F = mismatch_is n m i h in
       let j = first_mismatch n m i in
@@ -71,7 +72,7 @@ module _ (n : ℕ) (m : List Float) (i : ℕ) where
       let e : first_unsymmetric n m ≡ i * n + j = first_found (unsymmetric n m) (n * n) (i * n + j) (cell_lt n i j h l) u (before j F.most rows F.good) in
       rw (e, lt-ltb (i * n + j) (n * n) (cell_lt n i j h l), digits_div i l, digits_mod i l)
 
-none : (n : ℕ) (m : List Float) → ((k : ℕ) → k < n * n → unsymmetric n m k ≡ false) → Complete ≡ check_symmetric n m
+none : (n : ℕ) (m : List Float) → ((k : ℕ) → k < n * n → unsymmetric n m k ≡ false) → Ok tt ≡ check_symmetric n m
 none n m rows = rw (first-none (unsymmetric n m) (n * n) rows, le-ltb (n * n) (n * n) (le_refl (n * n)))
 
 pub returns-then-j-n : goal.returns-then-j-n

@@ -24,13 +24,13 @@ pub returns-then-get : goal.returns-then-get
 unfolding first_mismatch
 returns-then-get c =
     let t = c.before.before.before in
-    sym (t.loop-j.invariant.2 ∙ search_found _ _ _ t.loop-j-test.true (differ c.get.ensures c.get-in-loop-j.ensures c.if-get.true))
+    sym (t.loop-j.invariant ∙ search_found _ _ _ t.loop-j-test.true (differ c.get.ensures c.get-in-loop-j.ensures c.if-get.true))
 
 pub loop-j-preserved : goal.loop-j-preserved
 loop-j-preserved c =
     let t = c.before.before.before in
-    (search rules, search rules, t.loop-j.invariant.2 ∙ search_turn _ _ _ t.loop-j-test.true (agree c.get.ensures c.get-in-loop-j.ensures c.if-get.false))
+    (t.loop-j.invariant ∙ search_turn _ _ _ t.loop-j-test.true (agree c.get.ensures c.get-in-loop-j.ensures c.if-get.false))
 
 pub returns : goal.returns
 unfolding first_mismatch
-returns c = let l = c.loop-j in sym (l.invariant.2 ∙ search_end _ _ _ l.invariant.1 c.loop-j-test.false)
+returns c = let l = c.loop-j in sym (l.invariant ∙ search_end _ _ _ (search rules) c.loop-j-test.false)

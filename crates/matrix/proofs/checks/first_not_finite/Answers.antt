@@ -1,18 +1,18 @@
-use borrow.Author.Rules.{rules}
 use mathlib.Core.Bool.{not}
-use mathlib.Core.Path.{sym, ap, ◌∙◌}
-use Rattle.matrix.proofs.CheckLaws.{search_found, search_turn, search_end}
+use mathlib.Core.Path.{refl, ap, ◌∙◌}
+use lib.ListN.{length}
+use lib.Ieee.{Float, nan}
+use lib.Ieee.Scale.{finite}
+use Rattle.std.proofs.Common.{rules, tests}
+use Rattle.std.specs.Option.{unwrap_or}
+use Rattle.std.proofs.lemmas.Iterator.{YieldsList-from_slice}
+use Rattle.std.proofs.lemmas.Iterator.Search.{position_from_yields_List}
+use Rattle.arithmetic.proofs.Chains.{first_position}
 use Rattle.matrix.proofs.checks.first_not_finite.Goals as goal
 
-pub returns-then-not-finite : goal.returns-then-not-finite
-returns-then-not-finite c =
-    let t = c.before.before.before in
-    sym (t.loop-k.invariant.1 ∙ search_found _ _ _ t.loop-k-test.true (sym (ap not c.finite.ensures) ∙ (ap not c.if-not-finite.true)))
-
-pub loop-k-preserved : goal.loop-k-preserved
-loop-k-preserved c =
-    let t = c.before.before.before in
-    (search rules, t.loop-k.invariant.1 ∙ search_turn _ _ _ t.loop-k-test.true (sym (ap not c.finite.ensures) ∙ (ap not c.if-not-finite.false)))
-
 pub returns : goal.returns
-returns c = let l = c.loop-k in sym (l.invariant.1 ∙ search_end _ _ _ l.invariant.0 c.loop-k-test.false)
+returns c =
+    let m = c.args.m.now in
+    let bad = λ (x : Float). not (finite x) in
+    let e = position_from_yields_List bad _ _ c.position.result c.position.ensures.ran (YieldsList-from_slice m cc) (λ x b q k. search (rules, tests)) in
+    c.unwrap_or.ensures ∙ ap (λ (o : _). unwrap_or o (length m)) e ∙ first_position bad m nan (length m) refl

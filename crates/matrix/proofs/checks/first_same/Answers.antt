@@ -1,17 +1,18 @@
-use borrow.Author.Rules.{rules}
-use borrow.Author.Tests.{eq-eqb, ne_eqb}
-use mathlib.Core.Path.{sym, ◌∙◌}
-use Rattle.matrix.proofs.CheckLaws.{search_found, search_turn, search_end}
+use mathlib.Core.Path.{ap, ◌∙◌}
+use Prim.Native.Nat.{ℕ}
+use native.Mathlib.Omega.{arith}
+use lib.Dec.{eqb}
+use lib.ListN.{get_or, take}
+use Rattle.std.proofs.Common.{rules, tests}
+use Rattle.std.specs.Option.{unwrap_or}
+use Rattle.std.proofs.lemmas.Iterator.{YieldsList-from_slice}
+use Rattle.std.proofs.lemmas.Iterator.Search.{position_from_yields_List}
+use Rattle.arithmetic.proofs.Chains.{first_position_before}
 use Rattle.matrix.proofs.checks.first_same.Goals as goal
 
-pub returns-then-numbers-i : goal.returns-then-numbers-i
-returns-then-numbers-i c =
-    let l = c.loop-i in
-    sym (l.invariant.1 ∙ search_found _ _ _ c.loop-i-test.true (eq-eqb _ _ c.if-numbers-i.true))
-
-pub loop-i-preserved : goal.loop-i-preserved
-loop-i-preserved c =
-    (search rules, c.loop-i.invariant.1 ∙ search_turn _ _ _ c.loop-i-test.true (ne_eqb _ _ c.if-numbers-i.false))
-
 pub returns : goal.returns
-returns c = let l = c.loop-i in sym (l.invariant.1 ∙ search_end _ _ _ l.invariant.0 c.loop-i-test.false)
+returns c =
+    let a = c.args in
+    let same = λ (x : ℕ). eqb x (get_or a.numbers.now a.k 0) in
+    let e = position_from_yields_List same _ _ c.position.result c.position.ensures.ran (YieldsList-from_slice (take a.k a.numbers.now) cc) (λ x b q k. search (rules, tests)) in
+    c.unwrap_or.ensures ∙ ap (λ (o : _). unwrap_or o a.k) e ∙ first_position_before same a.numbers.now 0 a.k (omega arith)

@@ -1,13 +1,9 @@
-use Prim.Native.Nat.{◌-◌}
-use lib.ListN.{get_or}
-use lib.Ieee.{nan}
+use mathlib.Core.Bool.{true, ◌&&◌}
+use mathlib.Core.Path.{◌≡◌}
+use lib.ListN.{take}
 use lib.Ieee.Scale.{finite}
-use Rattle.arithmetic.proofs.AllLaws.{and_test}
-use Rattle.arithmetic.proofs.Counting.{Counting}
+use Rattle.std.specs.List.{fold}
 use Rattle.matrix.proofs.checks.list_finite.Given as goal
 
-abbrev pub invariant-loop-i : goal.invariant-loop-i
-invariant-loop-i l = Counting l.a l.n l.i (and_test (λ k. finite (get_or l.l k nan))) l.initial.ok l.ok
-
-abbrev pub decreases-loop-i : goal.decreases-loop-i
-decreases-loop-i l = l.n - l.i
+abbrev pub invariant-loop-x : goal.invariant-loop-x
+invariant-loop-x l = l.ok ≡ fold (λ ok x. ok && finite x) true (take l.x-index l.x-items)

@@ -12,11 +12,11 @@ use Rattle.matrix.specs.declared.utils.Best.{Best}
 use Rattle.matrix.proofs.utils.best_of.Goals as goal
 
 pub loop-i-init : goal.loop-i-init
-loop-i-init c = (search rules, loop_start _ _ _)
+loop-i-init c = loop_start _ _ _
 
 pub loop-i-preserved : goal.loop-i-preserved
 unfolding look
-loop-i-preserved c = (search rules, loop_turn 0 _ _ _ _ _ zero-le c.loop-i.invariant.1 (rw (c.better-s.ensures, c.key-in-loop-i.ensures)))
+loop-i-preserved c = loop_turn 0 _ _ _ _ _ zero-le c.loop-i.invariant (rw (c.better-s.ensures, c.key-in-loop-i.ensures))
 
 from_first : (magnitude : Bool) (c : List Float) (k : Float) (s : Best) → k ≡ key magnitude (get_or c 0 nan) → s ≡ range 0 (length c) (look magnitude c) (record { max = k; index = 0 }) → s ≡ best_of magnitude c
 unfolding best_of
@@ -26,4 +26,4 @@ pub returns : goal.returns
 returns c =
     let a = c.args in
     from_first a.magnitude a.c.now _ _ c.key.ensures
-    (loop_end 0 _ _ _ _ _ c.loop-i.invariant.0 (search rules) c.loop-i.invariant.1)
+    (loop_end 0 _ _ _ _ _ (search rules) (search rules) c.loop-i.invariant)

@@ -1,6 +1,8 @@
-use Rattle.matrix.proofs.CheckLaws.{complete-accepted}
+use Rattle.matrix.proofs.CheckLaws.{passed}
 use Rattle.matrix.proofs.CallLaws.{permutation-accepted}
 use Rattle.matrix.proofs.utils.index_to_permutation_mat.Goals as goal
 
-pub index_to_permutation_mat_unchecked-requires : goal.index_to_permutation_mat_unchecked-requires
-index_to_permutation_mat_unchecked-requires c = let h = permutation-accepted _ _ (complete-accepted c.permutation_checks-outcome.ensures c.complete.ensures c.if-complete.true) in record { square = h.0; all_below = h.1 }
+pub index_to_permutation_mat_unchecked-requires-clause-all_below :
+    goal.index_to_permutation_mat_unchecked-requires-clause-all_below
+index_to_permutation_mat_unchecked-requires-clause-all_below c =
+    (permutation-accepted _ _ (passed c.permutation_checks.ensures c.in_ok-permutation_checks.was)).1

@@ -1,12 +1,8 @@
 use mathlib.Core.Path.{◌≡◌}
-use Prim.Native.Nat.{◌-◌, ◌≤◌}
 use lib.ListN.{length}
 use Rattle.arithmetic.specs.Loop.{range}
 use Rattle.matrix.specs.Plain.{put_one}
 use Rattle.matrix.proofs.utils.index_to_permutation_mat_unchecked.Given as goal
 
 abbrev pub invariant-loop-i : goal.invariant-loop-i
-invariant-loop-i l = (l.i ≤ l.n) × (length l.mat ≡ length l.initial.mat) × (l.mat ≡ range 0 l.i (put_one l.idxs) l.initial.mat)
-
-abbrev pub decreases-loop-i : goal.decreases-loop-i
-decreases-loop-i l = l.n - l.i
+invariant-loop-i l = (length l.mat ≡ length l.initial.mat) × (l.mat ≡ range 0 l.i (put_one l.idxs) l.initial.mat)

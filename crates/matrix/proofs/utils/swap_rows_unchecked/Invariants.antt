@@ -1,5 +1,4 @@
 use mathlib.Core.Path.{◌≡◌}
-use Prim.Native.Nat.{◌-◌}
 use lib.ListN.{length}
 use lib.Ieee.{nan}
 use Rattle.arithmetic.proofs.Counting.{Counting}
@@ -8,6 +7,3 @@ use Rattle.matrix.proofs.utils.swap_rows_unchecked.Given as goal
 
 abbrev pub invariant-loop-i : goal.invariant-loop-i
 invariant-loop-i l = Counting 0 l.n l.i (swap_in_rows nan l.n l.idx1 l.idx2) l.initial.mat l.mat × (length l.mat ≡ length l.initial.mat)
-
-abbrev pub decreases-loop-i : goal.decreases-loop-i
-decreases-loop-i l = l.n - l.i

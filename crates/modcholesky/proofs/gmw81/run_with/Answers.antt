@@ -8,7 +8,7 @@ use Rattle.matrix.specs.Plain.{AllBelow}
 use Rattle.methods.specs.Calls.{Call, answered}
 use Rattle.methods.specs.Gmw81.{Run, state, stepped, finish, Finished, run, mod_cholesky_gmw81}
 use Rattle.methods.specs.Result.{hand_back}
-use Rattle.methods.specs.declared.decomposition.Mark.TheVariants.{Never}
+use Rattle.std.specs.Prelude.{None}
 use Rattle.methods.specs.declared.progress.Progress.{Progress}
 use Rattle.methods.proofs.Counts.{steps_uncounted}
 use Rattle.methods.proofs.FiniteEntries.{FiniteEntries}
@@ -25,7 +25,7 @@ module _ (numbers : List ℕ) (n : ℕ) (a : List Float) (s : Run) (e : s ≡ st
   uncounted : s.progress.inexact ≡ 0
   uncounted = rw e (steps_uncounted numbers n a)
 
-  finites : FiniteEntries n a → s.progress.refused ≡ Never → AllFinite n s.l
+  finites : FiniteEntries n a → s.progress.refused ≡ None → AllFinite n s.l
   finites F h = (subst (FiniteRun n) (sym e) (steps_finite numbers n _ _ a F) h).each
 
 result_is : (numbers : List ℕ) (n : ℕ) (a : List Float) → mod_cholesky_gmw81 numbers n a ≡ hand_back n (run numbers n a).progress (run numbers n a).l (run numbers n a).e (run numbers n a).p

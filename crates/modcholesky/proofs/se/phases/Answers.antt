@@ -5,7 +5,7 @@ use lib.Ieee.{Float}
 use Rattle.methods.specs.Statements.{diagonal_max}
 use Rattle.methods.specs.Elimination.{Symmetric, mirrored}
 use Rattle.methods.specs.Se.{Run, state, lowered, start, phase_one, phase_two, run}
-use Rattle.methods.specs.declared.decomposition.Mark.TheVariants.{Step}
+use Rattle.std.specs.Prelude.{Some}
 use Rattle.methods.specs.declared.progress.Progress.{Progress}
 use Rattle.methods.specs.declared.schnabel_eskow.Tolerances.{Tolerances}
 use Rattle.methods.specs.declared.schnabel_eskow.Variant.{Variant}
@@ -25,7 +25,7 @@ started n a l e g p r h S k =
     rw ml k
 
 left_below : (v : Variant) (t : Tolerances) (numbers : List ℕ) (gamma : Float) (n : ℕ) (a : List Float) (s₁ s₂ : Run) → s₁ ≡ start n a → s₂ ≡ phase_one v t numbers gamma n s₁
-    → (k : ℕ) → s₂.progress.phase2 ≡ Step k → (k < n) × (s₂.progress.inexact ≤ k)
+    → (k : ℕ) → s₂.progress.phase2 ≡ Some k → (k < n) × (s₂.progress.inexact ≤ k)
 left_below v t numbers gamma n a s₁ s₂ e₁ e₂ = rw (e₂, e₁) (λ k h. (phase_one-below v t numbers gamma n a k h, (left-from_start v t numbers gamma n a).left k h))
 
 none_counted : (n : ℕ) (a l e g : List Float) (p : List ℕ) (r : Progress) → state l e g p r ≡ start n a → r.inexact ≡ 0
@@ -54,4 +54,4 @@ ran v t numbers n a gamma s₁ s₂ s₃ eg e₁ e₂ e₃ = rw (run_is, e₃, e
 
 pub returns : goal.returns
 returns c =
-    ran _ _ _ _ _ _ _ _ _ c.diagonal_max-gamma.ensures (started _ _ _ _ _ _ _ c.requires.square c.requires.e_len.4 c.begin-started.ensures) (c.phase_one-first.ensures _ _) c.phase_two.ensures
+    ran _ _ _ _ _ _ _ _ _ c.diagonal_max.ensures (started _ _ _ _ _ _ _ c.requires.square c.requires.e_len.4 c.begin-started.ensures) (c.phase_one-first.ensures _ _) c.phase_two.ensures

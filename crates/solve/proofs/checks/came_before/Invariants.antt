@@ -1,17 +1,8 @@
-use mathlib.Core.Bool.{Bool, not}
-use mathlib.Core.List.{List}
-use Prim.Native.Nat.{ℕ, ◌-◌}
+use mathlib.Core.Path.{◌≡◌}
 use lib.Dec.{eqb}
-use lib.ListN.{get_or}
-use Rattle.arithmetic.proofs.AllLaws.{and_test}
-use Rattle.arithmetic.proofs.Counting.{Counting}
+use lib.ListN.{take}
+use Rattle.std.specs.List.{list_any}
 use Rattle.solve.proofs.checks.came_before.Given as goal
 
-abbrev pub other : List ℕ → ℕ → ℕ → Bool
-other p k i = not (eqb (get_or p i 0) (get_or p k 0))
-
-abbrev pub invariant-loop-i : goal.invariant-loop-i
-invariant-loop-i l = Counting 0 l.k l.i (and_test (other l.p l.k)) l.initial.new l.new
-
-abbrev pub decreases-loop-i : goal.decreases-loop-i
-decreases-loop-i l = l.k - l.i
+abbrev pub invariant-loop-x : goal.invariant-loop-x
+invariant-loop-x l = l.before ≡ list_any (λ x. eqb x l.index) (take l.x-index l.x-items)

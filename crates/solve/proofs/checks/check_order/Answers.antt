@@ -4,14 +4,17 @@ use mathlib.Core.Path.{sym, ◌∙◌}
 use native.Mathlib.Nat.{le_refl}
 use Rattle.matrix.proofs.CheckLaws.{search_found, search_turn, search_end}
 use Rattle.solve.proofs.checks.check_order.Goals as goal
+use Rattle.solve.proofs.checks.check_order.Goals.{then-n-p-via-then-n-p, then-n-p-via-else-n-p+then-came_before}
 
 pub returns-then-n-p : goal.returns-then-n-p
 returns-then-n-p c =
-    rw (c.loop-k.invariant.1 ∙ search_found _ _ _ c.loop-k-test.true (rw (le-leb _ _ c.if-n-p.true)), lt-ltb _ _ c.loop-k-test.true)
-
-pub returns-then-came_before : goal.returns-then-came_before
-returns-then-came_before c =
-    rw (c.loop-k.invariant.1 ∙ search_found _ _ _ c.loop-k-test.true (rw (lt-leb _ _ c.if-n-p.false) (sym c.came_before.ensures ∙ c.if-came_before.true)), lt-ltb _ _ c.loop-k-test.true)
+    rw (
+      c.loop-k.invariant.1 ∙ search_found _ _ _ c.loop-k-test.true (elim c.then-n-p.branch [
+        | then-n-p-via-then-n-p w ↦ rw (le-leb _ _ w.if-n-p.true)
+        | then-n-p-via-else-n-p+then-came_before w ↦ rw (lt-leb _ _ w.if-n-p.false) (sym w.came_before.ensures ∙ w.if-came_before.true)
+      ]),
+      lt-ltb _ _ c.loop-k-test.true,
+    )
 
 pub loop-k-preserved : goal.loop-k-preserved
 loop-k-preserved c =

@@ -1,4 +1,4 @@
-use Prim.Native.Nat.{◌-◌}
+use Prim.Native.Nat.{◌+◌}
 use lib.ListN.{get_or}
 use lib.Ieee.{nan}
 use Rattle.arithmetic.specs.Double.{◌⊕◌, ◌⊗◌}
@@ -7,7 +7,4 @@ use Rattle.matrix.specs.Matrix.{at}
 use Rattle.solve.proofs.substitution.backward_sum.Given as goal
 
 abbrev pub invariant-loop-k : goal.invariant-loop-k
-invariant-loop-k l = Counting l.after l.n l.k (λ i v. v ⊕ at l.n l.l i l.t ⊗ get_or l.w i nan) l.initial.sum l.sum
-
-abbrev pub decreases-loop-k : goal.decreases-loop-k
-decreases-loop-k l = l.n - l.k
+invariant-loop-k l = Counting (l.t + 1) l.n l.k (λ i v. v ⊕ at l.n l.l i l.t ⊗ get_or l.w i nan) l.initial.sum l.sum

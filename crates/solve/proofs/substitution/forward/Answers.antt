@@ -1,29 +1,23 @@
-use mathlib.Core.List.{List}
-use mathlib.Core.Path.{◌≡◌, refl}
-use Prim.Native.Nat.{ℕ}
+use Rattle.std.proofs.lemmas.Result.{err_from_is_err_and}
 use native.Mathlib.Omega.{arith}
 use borrow.Author.Rules.{rules}
-use lib.Ieee.{Float}
-use Rattle.arithmetic.specs.Loop.{range}
-use Rattle.arithmetic.specs.declared.outcome.Outcome.TheVariants.{Complete}
 use Rattle.arithmetic.proofs.Counting.{counting_start, counting_turn, counting_end}
-use Rattle.matrix.specs.Matrix.{zeros}
-use Rattle.solve.specs.Substitution.{Rows, solved_rows, forward_row, forward}
+use Rattle.solve.specs.Substitution.{forward}
+use Rattle.solve.proofs.SolveLaws.{forward_left}
 use Rattle.solve.proofs.substitution.forward.Goals as goal
 
 pub loop-t-init : goal.loop-t-init
-loop-t-init c = (counting_start (search rules), refl)
+loop-t-init c = rw (c.clear.ensures, c.requires.z_len) (counting_start (search rules), search rules)
+
+pub returns-in_err-forward_row : goal.returns-in_err-forward_row
+returns-in_err-forward_row c =
+    let p = err_from_is_err_and c.from_residual.result c.from_residual.ensures.1 in
+    rw (p.1, p.2) (forward_left c.args.n c.args.l.now c.args.p.now c.args.b.now c.loop-t.invariant.0 c.loop-t-test.true (rw c.in_err-forward_row.was at c.forward_row.ensures))
 
 pub loop-t-preserved : goal.loop-t-preserved
 loop-t-preserved c =
-    let l = c.loop-t in
-    (counting_turn l.invariant.0 (search rules) c.forward_row-outcome.ensures, omega arith)
-
-from-zeros : (n k : ℕ) (l : List Float) (p : List ℕ) (b cleared : List Float) (r : Rows) → k ≡ n → cleared ≡ zeros k
-    → r ≡ range 0 n (forward_row n l p b) (solved_rows Complete cleared) → r ≡ forward n l p b
-unfolding forward
-from-zeros n k l p b cleared r e z h = rw (z, e) at h
+    (counting_turn c.loop-t.invariant.0 c.loop-t-test.true (rw c.in_ok-forward_row.was at c.forward_row.ensures), omega arith)
 
 pub returns : goal.returns
-returns c =
-    from-zeros _ _ _ _ _ _ (solved_rows _ _) c.requires.z_len c.clear.ensures (counting_end c.loop-t.invariant.0 (search rules))
+unfolding forward
+returns c = counting_end c.loop-t.invariant.0 c.loop-t-test.false

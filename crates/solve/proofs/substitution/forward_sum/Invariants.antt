@@ -1,4 +1,3 @@
-use Prim.Native.Nat.{◌-◌}
 use lib.ListN.{get_or}
 use lib.Ieee.{nan}
 use Rattle.arithmetic.specs.Double.{◌⊕◌, ◌⊗◌}
@@ -8,6 +7,3 @@ use Rattle.solve.proofs.substitution.forward_sum.Given as goal
 
 abbrev pub invariant-loop-k : goal.invariant-loop-k
 invariant-loop-k l = Counting 0 l.t l.k (λ i v. v ⊕ at l.n l.l l.t i ⊗ get_or l.z i nan) l.initial.sum l.sum
-
-abbrev pub decreases-loop-k : goal.decreases-loop-k
-decreases-loop-k l = l.t - l.k
