@@ -93,7 +93,7 @@ impl From<Refusal> for Place {
     }
 }
 
-// The number of a call's refusal; 0 for none.
+// The number of a call's refusal; 0 for none. No From, since Result and u8 are both the library's.
 pub fn number(outcome: Result<(), Refusal>) -> u8
     ensures { result ≡ number outcome }
 {

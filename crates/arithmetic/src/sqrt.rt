@@ -85,6 +85,7 @@ pub struct Rounded {
     pub inexact: bool,
 }
 
+// In one line, where a literal takes four.
 impl Rounded {
     fn of(value: f64, inexact: bool) -> Rounded
         ensures { result ≡ record { value = value; inexact = inexact } }

@@ -113,7 +113,7 @@ module _ (method n : ℕ) (a b : List ℕ) (l work e p : ℕ) (h : Accepted (ent
   pub numbers-read : length b ≡ 4 * n
   numbers-read = (number-checks-accepted n b N).0
 
-  -- .. goes on as one whose number checks came to Complete
+  -- .. goes on as one whose number checks came to Ok
   pub passes_without : Accepted (entry_byte_checks method n a (Ok tt) l work e p)
   passes_without = rw (complete-is (number_byte_checks n b) N.is) at h
 

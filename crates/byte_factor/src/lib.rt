@@ -7,9 +7,8 @@ ghost use Rattle.encoding.specs.Checks.{number_byte_checks};
 ghost use Rattle.byte_factor.specs.Factor.{bytes_call, operand_byte_checks, entry_byte_checks, bytes_call_with, factor_bytes_call, factor_numbered_bytes_call};
 
 use arithmetic::refusal::Refusal;
-use encoding::checks::{
-    check_entries, check_finite, check_list_buffer, check_matrix_buffer, number_byte_checks,
-};
+use encoding::checks::{check_entries, check_list_buffer, check_matrix_buffer, number_byte_checks};
+use encoding::double_bytes::DoubleBytes;
 use encoding::read::{read_doubles, read_numbers};
 use encoding::write::{clear_bytes, write_doubles, write_order};
 use matrix::checks;
@@ -67,7 +66,7 @@ fn entry_byte_checks(
     ensures { result ≡ entry_byte_checks method n a.now numbering l work e p }
 {
     operand_byte_checks(method, n, a.len(), numbering, l, work, e, p)?;
-    check_finite(n, a)
+    checks::check_finite(n, DoubleBytes { bytes: a })
 }
 
 // The number checks having passed: check 8, then the run on doubles; its result becomes bytes. What ends in 2 is lent for the doubles and indices.

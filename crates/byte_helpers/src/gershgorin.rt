@@ -5,10 +5,11 @@ ghost use Rattle.byte_helpers.specs.Helpers.{circles_bytes_call, circle_byte_che
 
 use arithmetic::refusal::Refusal;
 use circles::gershgorin::gershgorin_circles_unchecked as circles_of_doubles;
-use encoding::checks::{check_entries, check_finite, check_list_buffer};
+use encoding::checks::{check_entries, check_list_buffer};
+use encoding::double_bytes::DoubleBytes;
 use encoding::read::read_doubles;
 use encoding::write::write_doubles;
-use matrix::checks::check_size;
+use matrix::checks::{check_finite, check_size};
 use matrix::entries::clear;
 
 // The matrix is read into a, and its circles worked out in c and r.
@@ -65,7 +66,7 @@ fn circle_byte_checks(mat: &[u8], n: usize, centres: usize, radii: usize) -> Res
     check_entries(n, mat.len())?;
     check_list_buffer(n, centres)?;
     check_list_buffer(n, radii)?;
-    check_finite(n, mat)
+    check_finite(n, DoubleBytes { bytes: mat })
 }
 
 pub fn gershgorin_circles(

@@ -7,10 +7,11 @@ ghost use Rattle.encoding.specs.Bytes.{doubles, double_bytes};
 ghost use Rattle.byte_helpers.specs.Helpers.{permutation_byte_checks, index_to_permutation_mat_bytes_call, diagonal_byte_checks, diag_mat_from_arr_bytes_call};
 
 use arithmetic::refusal::Refusal;
-use encoding::checks::{check_finite, check_indices, check_matrix_buffer, check_whole};
+use encoding::checks::{check_indices, check_matrix_buffer, check_whole};
+use encoding::double_bytes::DoubleBytes;
 use encoding::read::read_number;
 use encoding::write::{clear_bytes, write_number};
-use matrix::checks::check_size;
+use matrix::checks::{check_finite, check_size};
 use matrix::entries::cell;
 
 // The bits of 1.0.
@@ -63,7 +64,7 @@ fn diagonal_byte_checks(arr: &[u8], len: usize) -> Result<(), Refusal>
     check_size(n)?;
     check_whole(arr.len())?;
     check_matrix_buffer(n, len)?;
-    check_finite(1, arr)
+    check_finite(1, DoubleBytes { bytes: arr })
 }
 
 pub fn diag_mat_from_arr(arr: &[u8], mat: &mut [u8]) -> Result<(), Refusal>

@@ -1,4 +1,5 @@
-// Solving on bytes: doubles are eight bytes, low byte first, p one byte an index.
+// Solving on bytes: doubles are eight bytes, low byte first, p one byte an index. The checks of L's rows aren't those of crates/solve: of
+// what stands above the diagonal, and of bytes that may be no finite double, no double is made.
 #![tactic(auto)]
 
 ghost use Rattle.std.specs.Prelude.{◌≡◌, true, ℕ, ◌*◌, ◌<◌, ◌≤◌, length, get_or};
@@ -13,9 +14,8 @@ ghost use Rattle.encoding.specs.Bytes.{doubles};
 ghost use Rattle.byte_solve.specs.Solve.{solve_bytes_call_of, length_byte_checks, pattern_checks, solve_bytes_call};
 
 use arithmetic::refusal::Refusal;
-use encoding::checks::{
-    check_double_list, check_entries, check_finite, check_list_buffer, finite_pattern,
-};
+use encoding::checks::{check_double_list, check_entries, check_list_buffer, finite_pattern};
+use encoding::double_bytes::DoubleBytes;
 use encoding::read::{read_doubles, read_number, read_order};
 use encoding::write::write_doubles;
 use matrix::checks;
@@ -102,7 +102,7 @@ fn pattern_checks(l: &[u8], n: usize, p: &[usize], b: &[u8]) -> Result<(), Refus
 {
     check_order(n, p)?;
     check_lower(n, l)?;
-    check_finite(1, b)
+    checks::check_finite(1, DoubleBytes { bytes: b })
 }
 
 // L's lower part and b are read, 15 is checked, and the steps' y becomes bytes. What ends in 2 is lent for doubles.

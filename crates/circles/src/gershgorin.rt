@@ -58,6 +58,7 @@ pub fn gershgorin_circles_unchecked(
     requires centres_len { (length centres.old ≡ n) × (length radii.old ≡ n) }
     ensures { circles_call result centres.new radii.new ≡ gershgorin_circles n mat.now centres.old radii.old }
 {
+    // i is a row's number too.
     for i in 0..n {
         let s = magnitude_sums(mat, n, i);
         if overflows(s) {

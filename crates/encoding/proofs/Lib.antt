@@ -8,4 +8,3 @@ pub mod WriteLaws
 pub mod Elements
 pub mod Rewritten
 pub mod Checked
-pub mod Searches

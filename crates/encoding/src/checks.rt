@@ -1,15 +1,15 @@
 // The checks made on bytes, in the order of their refusals' numbers: eight bytes for each double, four for each contract number.
-// They stand beside those of crates/matrix, and are not one with them: of bytes that may be no finite double no double is made, so an entry
-// is tested by its pattern, and a trait over both would have a method for each difference.
+// That doubles are finite is checked by crates/matrix, on `DoubleBytes`; the checks here are of lengths in bytes, and of indices and contract
+// numbers, which are no lists of doubles.
 ghost use Rattle.std.specs.Prelude.{◌≡◌, ◌*◌, ◌/◌, ◌<◌, length};
 ghost use Rattle.std.specs.Float.{binary64};
 ghost use Rattle.std.specs.Float.Ieee.{of_bits};
 ghost use Rattle.std.specs.Float.Ieee.Scale.{finite};
-ghost use Rattle.matrix.specs.Checks.{check_buffer, check_indices, check_finite, check_distinct, check_list, first_not_finite, first_same};
-ghost use Rattle.encoding.specs.Bytes.{doubles, numbers};
+ghost use Rattle.matrix.specs.Checks.{check_buffer, check_indices, check_distinct, check_list, first_same};
+ghost use Rattle.encoding.specs.Bytes.{numbers};
 ghost use Rattle.encoding.specs.Checks.{check_whole, check_entries, check_number_bytes, number_byte_checks};
 
-use crate::read::{read_contract_number, read_number};
+use crate::read::read_contract_number;
 use arithmetic::refusal::{Refusal, refuse};
 use matrix::checks;
 
@@ -59,27 +59,6 @@ pub fn finite_pattern(v: u64) -> bool
     ensures { result ≡ finite (of_bits binary64 v) }
 {
     v % 0x8000_0000_0000_0000 / 0x10_0000_0000_0000 != 2047
-}
-
-// The position of the first double that is not finite, or their count, as its definition answers. No double is made.
-fn first_not_finite(b: &[u8]) -> usize
-    ensures { result ≡ first_not_finite (doubles b.now) }
-{
-    let count = b.len() / 8;
-    (0..count)
-        .position(|k| !finite_pattern(read_number(b, 8 * k)))
-        .unwrap_or(count)
-}
-
-// 7: in rows of n.
-pub fn check_finite(n: usize, b: &[u8]) -> Result<(), Refusal>
-    ensures { result ≡ check_finite n (doubles b.now) }
-{
-    let k = first_not_finite(b);
-    if k < b.len() / 8 {
-        return Err(checks::not_finite_at(n, k));
-    }
-    Ok(())
 }
 
 // 12: n contract numbers.

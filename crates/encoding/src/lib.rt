@@ -2,5 +2,6 @@
 #![tactic(auto)]
 
 pub mod checks;
+pub mod double_bytes;
 pub mod read;
 pub mod write;

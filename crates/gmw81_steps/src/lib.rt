@@ -26,7 +26,7 @@ use statements::larger_magnitude;
 
 // Each d[j] is at least delta, and so large that column j of L times its root stays within beta, but for rounding.
 #[derive(Clone, Copy)]
-pub struct Bounds {
+pub struct Limits {
     pub delta: f64,
     pub beta: f64,
 }
@@ -127,6 +127,7 @@ fn divide_row(c: &[f64], d: &[f64], l: &mut [f64], n: usize, j: usize)
     requires j_lt_n { (j < n) × (length d.now ≡ n) }
     ensures { l.new ≡ divide_row n j c.now d.now l.old }
 {
+    // s is a column's number too.
     for s in 0..j {
         put(l, n, j, s, get(c, n, j, s) / d[s]);
     }
@@ -245,21 +246,21 @@ fn step_values(
     c: &mut [f64],
     d: &[f64],
     n: usize,
-    bounds: Bounds,
+    limits: Limits,
     j: usize,
     max_idx: usize,
 ) -> StepValues
     requires square { Square n l.old }
     requires square_2 { Square n c.old }
     requires max_idx_bound { (j + max_idx < n) × (length d.now ≡ n) }
-    ensures { Stepped n bounds.delta bounds.beta j max_idx l.old c.old d.now l.new c.new result }
+    ensures { Stepped n limits.delta limits.beta j max_idx l.old c.old d.now l.new c.new result }
 {
     statements::pivot_matrix(c, n, j, max_idx);
     statements::pivot_matrix(l, n, j, max_idx);
     divide_row(c, d, l, n, j);
     column(l, c, n, j);
     let theta = theta_of(c, n, j);
-    let dj = d_of(get(c, n, j, j), theta, bounds.beta, bounds.delta);
+    let dj = d_of(get(c, n, j, j), theta, limits.beta, limits.delta);
     update_diagonal(c, n, j, dj);
     let ej = dj - get(c, n, j, j);
     StepValues {
@@ -276,7 +277,7 @@ fn step_at(
     e: &mut [f64],
     p: &mut [usize],
     n: usize,
-    bounds: Bounds,
+    limits: Limits,
     j: usize,
     max_idx: usize,
     tie: bool,
@@ -286,9 +287,9 @@ fn step_at(
     requires square_2 { Square n c.old }
     requires d_len { (length d.old ≡ n) × (length e.old ≡ n) × (length p.old ≡ n) }
     requires max_idx_bound { j + max_idx < n }
-    ensures { state l.new c.new d.new e.new p.new result ≡ step_at n bounds.delta bounds.beta j max_idx tie (state l.old c.old d.old e.old p.old r) }
+    ensures { state l.new c.new d.new e.new p.new result ≡ step_at n limits.delta limits.beta j max_idx tie (state l.old c.old d.old e.old p.old r) }
 {
-    let v = step_values(l, c, d, n, bounds, j, max_idx);
+    let v = step_values(l, c, d, n, limits, j, max_idx);
     d[j] = v.d;
     e[j] = v.e;
     statements::pivot_list(p, j, v.pivot);
@@ -305,7 +306,7 @@ fn step(
     p: &mut [usize],
     diag: &mut [f64],
     n: usize,
-    bounds: Bounds,
+    limits: Limits,
     j: usize,
     r: Progress,
 ) -> Progress
@@ -313,13 +314,13 @@ fn step(
     requires square_2 { Square n c.old }
     requires d_len { (length d.old ≡ n) × (length e.old ≡ n) × (length p.old ≡ n) × (length diag.old ≡ n) }
     requires j_lt_n { j < n }
-    ensures { state l.new c.new d.new e.new p.new result ≡ step numbers.now n bounds.delta bounds.beta j (state l.old c.old d.old e.old p.old r) }
+    ensures { state l.new c.new d.new e.new p.new result ≡ step numbers.now n limits.delta limits.beta j (state l.old c.old d.old e.old p.old r) }
 {
     if r.stopped() {
         return r;
     }
     let f = statements::search_diagonal(numbers, p, true, c, n, j, diag);
-    step_at(l, c, d, e, p, n, bounds, j, f.index, f.tied, r)
+    step_at(l, c, d, e, p, n, limits, j, f.index, f.tied, r)
 }
 
 pub fn steps(
@@ -331,16 +332,16 @@ pub fn steps(
     p: &mut [usize],
     diag: &mut [f64],
     n: usize,
-    bounds: Bounds,
+    limits: Limits,
     mut r: Progress,
 ) -> Progress
     requires square { Square n l.old }
     requires square_2 { Square n c.old }
     requires d_len { (length d.old ≡ n) × (length e.old ≡ n) × (length p.old ≡ n) × (length diag.old ≡ n) }
-    ensures { state l.new c.new d.new e.new p.new result ≡ range 0 n (step numbers.now n bounds.delta bounds.beta) (state l.old c.old d.old e.old p.old r) }
+    ensures { state l.new c.new d.new e.new p.new result ≡ range 0 n (step numbers.now n limits.delta limits.beta) (state l.old c.old d.old e.old p.old r) }
 {
     for j in 0..n {
-        r = step(numbers, l, c, d, e, p, diag, n, bounds, j, r);
+        r = step(numbers, l, c, d, e, p, diag, n, limits, j, r);
     }
     r
 }
@@ -376,6 +377,7 @@ fn scale_row(l: &mut [f64], r: &[f64], n: usize, i: usize)
     requires r_len { (length r.now ≡ n) × (i < n) }
     ensures { l.new ≡ range 0 n (λ k m. put n m i k (plus_zero ⊕ at n m i k ⊗ get_or r.now k nan)) l.old }
 {
+    // k is a column's number too.
     for k in 0..n {
         let v = 0.0 + get(l, n, i, k) * r[k];
         put(l, n, i, k, v);

@@ -5,7 +5,9 @@ use Prim.Native.Nat.{ℕ, ◌<◌}
 use lib.ListN.{get_or, get_or-replicate}
 use lib.Ieee.{Float, nan}
 use Rattle.arithmetic.specs.Double.{plus_zero}
-use Rattle.std.specs.Prelude.{None, Some}
+use Rattle.std.specs.Prelude.{None, Some, Ok, Err}
+use Rattle.arithmetic.specs.declared.refusal.Refusal.TheVariants.{StoredNotFinite}
+use Rattle.arithmetic.specs.Outcome.{Outcome}
 use Rattle.methods.specs.Reloading.{LoadOrder}
 use Rattle.methods.specs.Result.{Result, hand_back}
 use Rattle.methods.specs.Marks.{Mark}
@@ -43,6 +45,10 @@ pub data Ended (May : Type 0) (n : ℕ) (s : List ℕ) (A B : End) : Type 0 wher
   both_alike : BothAlike n s A B → Ended May n s A B
 
 -- ---- what is handed back
+-- a refused run isn't complete
+pub refused-not_complete : (t : ℕ) → ◌≡◌ {A = Outcome} (Err (StoredNotFinite t)) (Ok tt) → ⊥
+refused-not_complete t e = cc
+
 -- what is alike where no tie parts the runs
 pub record Joined (n : ℕ) (s : List ℕ) (first second : Result) : Type 0 where
   pub tied : first.decomposition.tied ≡ second.decomposition.tied

@@ -74,6 +74,12 @@ none_bad bad n good e = same_tests (all 0 n good) (leb n (first bad n))
     ]))
     (λ h. all_true 0 n good (omega arith) (λ i p q. not-false (good i) (sym (e i) ∙ (first-is bad n).good i p (omega (arith, leb-true n (first bad n) h)))))
 
+pub end-is_first_bad : (bad : ℕ → Bool) (n : ℕ) (good : ℕ → Bool) → ((i : ℕ) → bad i ≡ not (good i)) → eqb (first bad n) n ≡ all 0 n good
+end-is_first_bad bad n good e =
+    let f = first bad n in
+    same_tests (eqb f n) (leb n f) (λ h. le-leb n f (omega (arith, eqb-true f n h))) (λ h. eq-eqb f n (omega (arith, leb-true n f h, (first-is bad n).most)))
+    ∙ sym (none_bad bad n good e)
+
 -- ---- one check of a chain, in code: it is run, its answer asked whether it is complete, and returned where it is not
 pub record Accepted (o : Outcome) : Type 0 where
   pub is : complete o ≡ true

@@ -5,5 +5,6 @@ pub mod SwapLaws
 pub mod Bijection
 pub mod SearchLaws
 pub mod Filled
+pub mod Searches
 pub mod CheckLaws
 pub mod CallLaws

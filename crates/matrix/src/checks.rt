@@ -4,8 +4,9 @@ ghost use Rattle.std.specs.Float.{nan};
 ghost use Rattle.std.specs.Float.Ieee.Scale.{finite};
 ghost use Rattle.arithmetic.specs.All.{all};
 ghost use Rattle.matrix.specs.Matrix.{Square};
-ghost use Rattle.matrix.specs.Checks.{check_size, check_some, check_matrix, check_buffer, check_index, check_indices, check_finite, check_symmetric, check_numbers, check_distinct, check_list, first_not_finite, first_mismatch, first_same, AllFinite};
+ghost use Rattle.matrix.specs.Checks.{check_size, check_some, check_matrix, check_buffer, check_index, check_indices, check_finite, check_symmetric, check_numbers, check_distinct, check_list, first_mismatch, first_same, AllFinite};
 
+use crate::doubles::Doubles;
 use crate::entries::get;
 use arithmetic::double::finite;
 use arithmetic::refusal::{Refusal, refuse};
@@ -77,13 +78,6 @@ pub fn list_finite(l: &[f64], a: usize) -> bool
     ok
 }
 
-// The position of the first entry that is not finite, or the length, as its definition answers: no Option, which would be one case more.
-pub fn first_not_finite(m: &[f64]) -> usize
-    ensures { result ≡ first_not_finite m.now }
-{
-    m.iter().position(|x| !finite(*x)).unwrap_or(m.len())
-}
-
 // Position k in rows of n; rows of 0 are one row without an end.
 pub fn not_finite_at(n: usize, k: usize) -> Refusal
     ensures { result ≡ Refusal.NotFinite (k / n) (k % n) }
@@ -97,13 +91,13 @@ pub fn not_finite_at(n: usize, k: usize) -> Refusal
     }
 }
 
-pub fn check_finite(n: usize, m: &[f64]) -> Result<(), Refusal>
-    ensures { result ≡ check_finite n m.now }
+pub fn check_finite<L: Doubles>(n: usize, m: L) -> Result<(), Refusal>
+    ensures { result ≡ check_finite n (L.doubles m) }
 {
-    if list_finite(m, 0) {
+    if m.all_finite() {
         return Ok(());
     }
-    Err(not_finite_at(n, first_not_finite(m)))
+    Err(not_finite_at(n, m.first_not_finite()))
 }
 
 // The first column after i at which row i has other bits than column i, or n, as its definition answers.

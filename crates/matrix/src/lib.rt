@@ -3,5 +3,6 @@
 #![tactic(auto)]
 
 pub mod checks;
+pub mod doubles;
 pub mod entries;
 pub mod utils;

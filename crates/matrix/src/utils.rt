@@ -1,5 +1,5 @@
 // src/utils.rs: swaps, searches, eigenvalues, permutation and diagonal matrices.
-ghost use Rattle.std.specs.Prelude.{◌≡◌, Bool, ◌<◌, length};
+ghost use Rattle.std.specs.Prelude.{◌≡◌, Bool, true, ℕ, ◌<◌, length};
 ghost use Rattle.std.specs.Float.{nan};
 ghost use Rattle.matrix.specs.Matrix.{Square};
 ghost use Rattle.matrix.specs.Swap.{swap, swap_rows, swap_columns};
@@ -9,6 +9,7 @@ ghost use Rattle.matrix.specs.Plain.{AllBelow, index_to_permutation_mat, diag_ma
 ghost use Rattle.matrix.specs.Calls.{swap_checks, swap_rows_call, swap_columns_call, search_checks, search_call, check_eigen, eigen_checks, eigenvalues_2x2_call, permutation_checks, index_to_permutation_mat_call, diagonal_checks, diag_mat_from_arr_call};
 
 use crate::checks;
+use crate::doubles::Doubles;
 use crate::entries::{cell, clear, put};
 use arithmetic::double::{abs, finite};
 use arithmetic::refusal::{Refusal, refuse};
@@ -91,7 +92,7 @@ pub fn key(magnitude: bool, x: f64) -> f64
     if magnitude { abs(x) } else { x }
 }
 
-pub fn better(s: Best, x: f64, i: usize) -> Best
+fn better(s: Best, x: f64, i: usize) -> Best
     ensures { result ≡ better s x i }
 {
     if x > s.max {
@@ -101,16 +102,18 @@ pub fn better(s: Best, x: f64, i: usize) -> Best
     }
 }
 
-fn best_of(magnitude: bool, c: &[f64]) -> Best
-    requires { 0 < length c.now }
-    ensures { result ≡ best_of magnitude c.now }
+pub fn best_of<L: Doubles>(magnitude: bool, c: L) -> Best
+    requires nonzero { 0 < length (L.doubles c) }
+    requires by_index { (k : ℕ) → k < length (L.doubles c) → L.can_get c k ≡ true }
+    ensures { result ≡ best_of magnitude (L.doubles c) }
 {
     let mut s = Best {
-        max: key(magnitude, c[0]),
+        max: key(magnitude, c.get(0)),
         index: 0,
     };
-    for (i, x) in c.iter().enumerate() {
-        s = better(s, key(magnitude, *x), i);
+    let n = c.count();
+    for i in 0..n {
+        s = better(s, key(magnitude, c.get(i)), i);
     }
     s
 }
@@ -213,7 +216,7 @@ fn eigen_checks(mat: [[f64; 2]; 2], e: Eigen) -> Result<(), Refusal>
     ensures { result ≡ eigen_checks mat e }
 {
     let entries = [mat[0][0], mat[0][1], mat[1][0], mat[1][1]];
-    checks::check_finite(2, &entries)?;
+    checks::check_finite(2, &entries[..])?;
     check_eigen(e)
 }
 

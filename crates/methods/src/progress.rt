@@ -28,6 +28,7 @@ pub struct Stores {
 }
 
 #[tactic(auto, unfolding(crate::specs::Progress::one_if))]
+// By the name that the definitions have for it.
 pub fn one_if(flag: bool) -> usize
     ensures { result ≡ one_if flag }
 {

@@ -6,7 +6,7 @@ ghost use Rattle.methods.specs.Calls.{call, answered, factor_call, Operands};
 ghost use Rattle.methods.specs.Gmw81.{state, stepped, mod_cholesky_gmw81};
 
 use crate::calls;
-use gmw81_steps::Bounds;
+use gmw81_steps::Limits;
 use methods::decomposition::Decomposition;
 use methods::progress::Progress;
 
@@ -30,12 +30,12 @@ fn stepped(
 {
     let diag_max = statements::diagonal_max(a, n);
     let off_diag_max = gmw81_steps::off_diagonal_max(a, n);
-    let bounds = Bounds {
+    let limits = Limits {
         delta: gmw81_steps::delta_of(diag_max, off_diag_max),
         beta: gmw81_steps::beta_of(n, diag_max, off_diag_max),
     };
     let started = gmw81_steps::begin(a, n, l, c, d, e, p);
-    gmw81_steps::steps(numbers, l, c, d, e, p, diag, n, bounds, started)
+    gmw81_steps::steps(numbers, l, c, d, e, p, diag, n, limits, started)
 }
 
 // A whole run, with its fillings where it is refused; d and diag are scratch.

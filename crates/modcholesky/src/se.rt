@@ -31,6 +31,7 @@ fn phases(
     requires e_len { (length e.old ≡ n) × (length g.old ≡ n) × (length diag.old ≡ n) × (length p.old ≡ n) × Symmetric n a.now }
     ensures { lowered n (state l.new e.new g.new p.new result) ≡ lowered n (run v t numbers.now n a.now) }
 {
+    // Put together here, where gamma is read off the matrix: earlier it would take a premise that gamma is what it is.
     let params = Parameters {
         variant: v,
         tolerances: t,

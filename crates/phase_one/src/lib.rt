@@ -53,6 +53,7 @@ fn tmp_of(l: &[f64], n: usize, j: usize) -> f64
     (j + 1..n).fold(f64::INFINITY, |acc, i| fold_next(l, n, j, i, acc))
 }
 
+// The twin of aii_min but for what it looks for: one fold over the diagonal is all that both have.
 fn aii_max(l: &[f64], n: usize, j: usize) -> f64
     requires square { Square n l.now }
     requires j_lt_n { j < n }

@@ -8,6 +8,8 @@ use lib.ListN.{length, get_or, take, drop, length-drop, drop_of_length-le}
 use lib.Seq.{take_all, take-nil}
 use lib.Dec.{eqb, ltb}
 use borrow.Author.Tests.{ltb-true, ltb-false, lt-ltb}
+use Rattle.std.specs.Prelude.{Option, None, Some}
+use Rattle.std.specs.Option.{is_some}
 use Rattle.arithmetic.specs.Loop.{range, times}
 use Rattle.arithmetic.proofs.Cases.{same_tests, is, holds, fails}
 use Rattle.encoding.specs.Bytes.{low_first}
@@ -119,3 +121,11 @@ walk-at_most b =
     let second = step-at_most b 1 one (omega (arith, first)) in
     let third = step-at_most b 2 two (omega (arith, second)) in
     rw (walk_steps b) (step-at_most b 3 (pass_field b 2 two) (omega (arith, third)))
+
+-- without a field 04 no part is noted for one
+pub walk_none : (b : List ℕ) → is_some (walk b).parts.numbers ≡ false → (walk b).parts.numbers ≡ None
+walk_none b = none (walk b).parts.numbers
+  where
+    none : (part : Option Part) → is_some part ≡ false → part ≡ None
+    none None h = refl
+    none (Some part) h = absurd (true≢false h)

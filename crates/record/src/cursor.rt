@@ -81,7 +81,7 @@ fn cut(b: &[u8], at: usize) -> bool
     room - 3 < part.len
 }
 
-// The stage `next` where the tag is the one due, else WrongTag.
+// The stage `next` where the tag is the one due, else WrongTag. Tags are the record format's numbers.
 fn expect(field: usize, tag: usize, due: usize, next: Stage) -> Stage
     ensures { result ≡ expect field tag due next }
 {
@@ -105,24 +105,17 @@ fn after(field: usize, stage: Stage, tag: usize) -> Stage
             expect(field, tag, 0x03, Stage::Done)
         }
         Stage::EntriesDue => expect(field, tag, 0x03, Stage::Done),
-        Stage::Done => stage,
-        Stage::PastEnd { field: _ } => stage,
-        Stage::WrongTag { field: _, tag: _ } => stage,
+        Stage::Done | Stage::PastEnd { .. } | Stage::WrongTag { .. } => stage,
     }
 }
 
 fn nothing_due(stage: Stage) -> bool
     ensures { result ≡ nothing_due stage }
 {
-    match stage {
-        Stage::SizeDue => false,
-        Stage::MethodDue => false,
-        Stage::NumbersOrEntriesDue => false,
-        Stage::EntriesDue => false,
-        Stage::Done => true,
-        Stage::PastEnd { field: _ } => true,
-        Stage::WrongTag { field: _, tag: _ } => true,
-    }
+    matches!(
+        stage,
+        Stage::Done | Stage::PastEnd { .. } | Stage::WrongTag { .. }
+    )
 }
 
 // The part found where the field's tag is this one, else what was noted before.

@@ -6,8 +6,9 @@ ghost use Rattle.record.specs.MatrixRecord.{request_of, check_longest, check_wal
 use crate::cursor::{Cursor, Part, Stage, byte_at};
 use answer_record::write::LONGEST_ANSWER;
 use arithmetic::refusal::{Refusal, refuse};
-use encoding::checks::{check_entries, check_finite, number_byte_checks};
-use matrix::checks::{check_buffer, check_size};
+use encoding::checks::{check_entries, number_byte_checks};
+use encoding::double_bytes::DoubleBytes;
+use matrix::checks::{check_buffer, check_finite, check_size};
 use modcholesky::calls::check_method;
 
 // ---- what a record asks for
@@ -106,7 +107,7 @@ pub fn request_checks(
     request_size_checks(r, entries.len())?;
     request_number_checks(r, contracts)?;
     check_buffer(LONGEST_ANSWER, room)?;
-    check_finite(r.size, entries)
+    check_finite(r.size, DoubleBytes { bytes: entries })
 }
 
 // 1, 10 and 11, then the request's.

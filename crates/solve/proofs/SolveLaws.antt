@@ -14,8 +14,8 @@ use Rattle.arithmetic.specs.declared.refusal.Refusal.{Refusal}
 use Rattle.arithmetic.proofs.LoopLaws.{loop_start, loop_rest}
 use Rattle.arithmetic.proofs.Counting.{Counting, counting_left}
 use Rattle.matrix.specs.Matrix.{at, zeros, Square}
-use Rattle.matrix.proofs.CheckLaws.{Accepted, both_accepted, size_accepted, matrix-accepted}
-use Rattle.solve.specs.Substitution.{Rows, solved_rows, solved, store, forward_sum, forward_row, forward, backward_sum, backward_row, backward, put_back, solve_call_of, answer_of, solve, length_checks, solve_checks, Solvable}
+use Rattle.matrix.proofs.CheckLaws.{Accepted, both_accepted, goes_on, size_accepted, matrix-accepted}
+use Rattle.solve.specs.Substitution.{Rows, solved_rows, solved, store, forward_sum, forward_row, forward, backward_sum, backward_row, backward, put_back, solve_call_of, answer_of, solve, length_checks, content_checks, solve_checks, Solvable}
 use Rattle.solve.proofs.Accepted.{solve-accepted}
 
 pub forward-sum_is : (n : ℕ) (l z : List Float) (t : ℕ) → forward_sum n l z t ≡ range 0 t (λ k sum. sum ⊕ at n l t k ⊗ get_or z k nan) plus_zero
@@ -88,6 +88,9 @@ module _ (n : ℕ) (l : List Float) (p : List ℕ) (b : List Float) where
   lengths_square y h =
       let t = both_accepted _ _ (both_accepted _ _ (both_accepted _ _ (both_accepted _ _ h).0).0).0 in
       record { len = matrix-accepted n (length l) t.1; small = (size_accepted n t.0).1 }
+
+  pub contents_decide : (y : ℕ) {r : Outcome} → Accepted (length_checks n (length l) y (length p) (length b)) → r ≡ content_checks n l p b → r ≡ solve_checks n l y p b
+  contents_decide y A e = goes_on A e
 
   pub call-operands : (y : ℕ) → Accepted (solve_checks n l y p b) → Solvable n l p b × (y ≡ n)
   call-operands y h =

@@ -7,7 +7,8 @@ ghost use Rattle.matrix.specs.Matrix.{at, Square};
 ghost use Rattle.solve.specs.Checks.{check_order, check_lower, check_divisors, first_in_row};
 
 use arithmetic::refusal::Refusal;
-use matrix::checks::{first_not_finite, list_finite};
+use matrix::checks::list_finite;
+use matrix::doubles::Doubles;
 use matrix::entries::{cell, get};
 
 // Whether the index at k came before. Without an early end, so that the machine can test several at once.
@@ -29,9 +30,8 @@ fn came_before(p: &[usize], k: usize) -> bool
 pub fn check_order(n: usize, p: &[usize]) -> Result<(), Refusal>
     ensures { result ≡ check_order n p.now }
 {
-    let len = p.len();
-    for k in 0..len {
-        if n <= p[k] || came_before(p, k) {
+    for (k, index) in p.iter().enumerate() {
+        if n <= *index || came_before(p, k) {
             return Err(Refusal::IndexOutOfRange { position: k });
         }
     }
@@ -53,7 +53,7 @@ fn first_in_row(l: &[f64], n: usize, i: usize) -> usize
     requires i_lt_n { i < n }
     ensures { result ≡ first_in_row n l.now i }
 {
-    first_not_finite(lower_row(l, n, i))
+    lower_row(l, n, i).first_not_finite()
 }
 
 // Whether row i is finite up to the diagonal. Without an early end either.

@@ -25,6 +25,7 @@ fn forward_sum(l: &[f64], n: usize, z: &[f64], t: usize) -> f64
     ensures { result ≡ forward_sum n l.now z.now t }
 {
     let mut sum = 0.0;
+    // k is a column's number too.
     for k in 0..t {
         sum += get(l, n, t, k) * z[k];
     }
@@ -66,6 +67,7 @@ fn backward_sum(l: &[f64], n: usize, w: &[f64], t: usize) -> f64
     ensures { result ≡ backward_sum n l.now w.now t }
 {
     let mut sum = 0.0;
+    // k is a row's number too.
     for k in t + 1..n {
         sum += get(l, n, k, t) * w[k];
     }
@@ -116,8 +118,8 @@ fn put_back(n: usize, p: &[usize], w: &[f64], y: &mut [f64])
     ensures { y.new ≡ put_back n p.now w.now }
 {
     clear(y);
-    for t in 0..n {
-        y[p[t]] = w[t];
+    for (t, row) in p.iter().enumerate() {
+        y[*row] = w[t];
     }
 }
 

@@ -112,6 +112,7 @@ fn copy_diagonal(m: &[f64], n: usize, j: usize, diag: &mut [f64])
     requires j_le_n { (j ≤ n) × (length diag.old ≡ n) }
     ensures { (i : ℕ) → j ≤ i → i < n → get_or diag.new i nan ≡ at n m.now i i }
 {
+    // i is a row's number too.
     for i in j..n {
         diag[i] = get(m, n, i, i);
     }
@@ -219,6 +220,7 @@ fn divide_column(l: &mut [f64], n: usize, j: usize, r: f64, column: &mut [f64]) 
     ensures { ColumnWritten n j (j + 1) (λ x. at n l.old x j ⊘ r) l.old n l.new result × ((x : ℕ) → j + 1 ≤ x → x < n → get_or column.new x nan ≡ at n l.old x j ⊘ r) }
 {
     let mut ok = true;
+    // i is a row's number too.
     for i in j + 1..n {
         let ij = cell(n, i, j);
         let v = l[ij] / r;
@@ -237,6 +239,7 @@ fn subtract_multiple(l: &mut [f64], n: usize, j: usize, i: usize, column: &[f64]
 {
     let mut ok = true;
     let x = column[i];
+    // k is a column's number too.
     for k in j + 1..i + 1 {
         let ik = cell(n, i, k);
         let v = l[ik] - x * column[k];

@@ -10,7 +10,7 @@ use Rattle.std.proofs.lemmas.Iterator.Search.{position_from_yields_List}
 use Rattle.std.specs.List.{range_with_len, position}
 use Rattle.matrix.specs.Matrix.{at}
 use Rattle.encoding.specs.Bytes.{doubles}
-use Rattle.encoding.proofs.Searches.{range-search}
+use Rattle.matrix.proofs.Searches.{range-search}
 use Rattle.byte_solve.proofs.first_in_row.Goals as goal
 
 pub returns : goal.returns

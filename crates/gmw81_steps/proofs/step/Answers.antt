@@ -24,4 +24,4 @@ step_at-requires-clause-max_idx_bound c = picked_below _ _ _ _ _ _ _ c.search_di
 pub returns : goal.returns
 returns c =
     let a = c.args in
-    goes a.numbers.now a.n a.bounds.delta a.bounds.beta a.j (state a.l.now a.c.now a.d.now a.e.now a.p.now a.r) _ c.search_diagonal-f.result c.stopped.result c.stopped.ensures c.if-stopped.false c.search_diagonal-f.ensures c.step_at.ensures
+    goes a.numbers.now a.n a.limits.delta a.limits.beta a.j (state a.l.now a.c.now a.d.now a.e.now a.p.now a.r) _ c.search_diagonal-f.result c.stopped.result c.stopped.ensures c.if-stopped.false c.search_diagonal-f.ensures c.step_at.ensures

@@ -22,5 +22,5 @@ stepped n delta beta j m tied l c d e p r l' c' v p' ok q q' h ep eok et er =
 pub returns : goal.returns
 returns c =
     let a = c.args in
-    stepped a.n a.bounds.delta a.bounds.beta a.j a.max_idx a.tie a.l.now a.c.now a.d.now a.e.now a.p.now a.r _ _ c.step_values-v.result _ _ _ _
+    stepped a.n a.limits.delta a.limits.beta a.j a.max_idx a.tie a.l.now a.c.now a.d.now a.e.now a.p.now a.r _ _ c.step_values-v.result _ _ _ _
     c.step_values-v.ensures (c.pivot_list.ensures 0) c.stored_finite-ok.ensures c.searched.ensures c.stored.ensures

@@ -12,7 +12,7 @@ use Rattle.std.proofs.lemmas.Iterator.Search.{position_from_yields_List}
 use Rattle.std.specs.List.{range_with_len, position}
 use Rattle.encoding.specs.Bytes.{low_first, numbers}
 use Rattle.encoding.proofs.ContractNumbers.{numbers-same}
-use Rattle.encoding.proofs.Searches.{range-search}
+use Rattle.matrix.proofs.Searches.{range-search}
 use Rattle.encoding.proofs.checks.first_same.Goals as goal
 
 pub returns : goal.returns

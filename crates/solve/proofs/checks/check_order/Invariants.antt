@@ -1,11 +1,9 @@
 use mathlib.Core.Path.{◌≡◌}
 use Prim.Native.Nat.{◌-◌, ◌≤◌}
+use lib.ListN.{length}
 use Rattle.arithmetic.specs.First.{first, first_from}
 use Rattle.solve.specs.Checks.{wrong_index}
 use Rattle.solve.proofs.checks.check_order.Given as goal
 
 abbrev pub invariant-loop-k : goal.invariant-loop-k
-invariant-loop-k l = (l.k ≤ l.len) × (first (wrong_index l.n l.p) l.len ≡ first_from (wrong_index l.n l.p) l.k (l.len - l.k))
-
-abbrev pub decreases-loop-k : goal.decreases-loop-k
-decreases-loop-k l = l.len - l.k
+invariant-loop-k l = (l.k ≤ length l.p) × (first (wrong_index l.n l.p) (length l.p) ≡ first_from (wrong_index l.n l.p) l.k (length l.p - l.k))
