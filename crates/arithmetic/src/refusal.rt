@@ -1,7 +1,7 @@
 // Why a call is refused (document 01, 'Refusals, in checking order', and document 02). A check answers Ok or its refusal, and the first
 // refusal of a call's checks is the call's.
 ghost use Rattle.std.specs.Prelude.{◌≡◌};
-ghost use Rattle.arithmetic.specs.Outcome.{number_of, place_of, number, refuse};
+ghost use Rattle.arithmetic.specs.Outcome.{number_of, place_of, number, place, refuse};
 
 // By their numbers. A record is checked for 1 (too long), 10 or 11, 1 (lengths, bytes after the last field), then 2 on; 12 and 13 come
 // between 4 and 5, 14 between 5 and 6, and 15 after 7.
@@ -89,6 +89,18 @@ impl From<Refusal> for Place {
             | Refusal::BufferLength
             | Refusal::NumbersLength
             | Refusal::ListLength => Place { row: 0, column: 0 },
+        }
+    }
+}
+
+// The place of a call's refusal; 0 and 0 for none.
+impl From<Result<(), Refusal>> for Place {
+    ghost from_gives = { λ outcome given. given ≡ place outcome };
+
+    fn from(outcome: Result<(), Refusal>) -> Place {
+        match outcome {
+            Ok(()) => Place { row: 0, column: 0 },
+            Err(refusal) => Place::from(refusal),
         }
     }
 }

@@ -17,10 +17,7 @@ impl From<Result<(), Refusal>> for Status {
     ghost from_gives = { λ outcome given. given ≡ status outcome };
 
     fn from(outcome: Result<(), Refusal>) -> Status {
-        let place = match outcome {
-            Ok(()) => Place { row: 0, column: 0 },
-            Err(refusal) => Place::from(refusal),
-        };
+        let place = Place::from(outcome);
         Status {
             number: usize::from(number(outcome)),
             row: place.row,

@@ -110,7 +110,7 @@ pub fn begin(
     requires d_len { (length d.old ≡ n) × (length e.old ≡ n) × (length p.old ≡ n) }
     ensures { state l.new c.new d.new e.new p.new result ≡ start n a.now }
 {
-    l.copy_from_slice(a);
+    statements::copy(a, l);
     clear(c);
     start_diagonal(a, c, n);
     clear(d);

@@ -94,10 +94,11 @@ pub fn not_finite_at(n: usize, k: usize) -> Refusal
 pub fn check_finite<L: Doubles>(n: usize, m: L) -> Result<(), Refusal>
     ensures { result ≡ check_finite n (L.doubles m) }
 {
-    if m.all_finite() {
-        return Ok(());
+    let k = m.first_not_finite();
+    if k < m.count() {
+        return Err(not_finite_at(n, k));
     }
-    Err(not_finite_at(n, m.first_not_finite()))
+    Ok(())
 }
 
 // The first column after i at which row i has other bits than column i, or n, as its definition answers.

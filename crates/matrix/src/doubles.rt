@@ -58,6 +58,15 @@ impl Doubles for &[f64] {
         finite(self[k])
     }
 
+    // All are tested first, since that takes several at once.
+    fn first_not_finite(self) -> usize {
+        let count = self.count();
+        if self.all_finite() {
+            return count;
+        }
+        self.iter().position(|x| !finite(*x)).unwrap_or(count)
+    }
+
     fn all_finite(self) -> bool {
         list_finite(self, 0)
     }

@@ -92,7 +92,7 @@ pub fn key(magnitude: bool, x: f64) -> f64
     if magnitude { abs(x) } else { x }
 }
 
-fn better(s: Best, x: f64, i: usize) -> Best
+pub fn better(s: Best, x: f64, i: usize) -> Best
     ensures { result ≡ better s x i }
 {
     if x > s.max {

@@ -26,7 +26,7 @@ pub fn begin(
     requires e_len { (length e.old ≡ n) × (length g.old ≡ n) × (length p.old ≡ n) }
     ensures { state l.new e.new g.new p.new result ≡ start n a.now }
 {
-    l.copy_from_slice(a);
+    statements::copy(a, l);
     clear(e);
     clear(g);
     statements::count_up(p);

@@ -303,13 +303,23 @@ pub fn lower_triangle(l: &mut [f64], n: usize)
     }
 }
 
+// By elements: with the library's copy_from_slice an archive for C needs memmove from outside.
+pub fn copy(from: &[f64], to: &mut [f64])
+    requires { length from.now ≡ length to.old }
+    ensures { to.new ≡ from.now }
+{
+    for (i, x) in to.iter_mut().enumerate() {
+        *x = from[i];
+    }
+}
+
 // The amounts in the order of the original rows; ec is scratch.
 pub fn reorder(p: &[usize], e: &mut [f64], ec: &mut [f64], n: usize)
     requires p_len { (length p.now ≡ n) × (length ec.old ≡ n) × (length e.old ≡ n) }
     requires all_below { AllBelow n p.now }
     ensures { e.new ≡ reorder n p.now e.old }
 {
-    ec.copy_from_slice(e);
+    copy(e, ec);
     for (i, row) in p.iter().enumerate() {
         e[*row] = ec[i];
     }

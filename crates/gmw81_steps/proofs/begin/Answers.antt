@@ -20,4 +20,4 @@ pub returns : goal.returns
 returns c =
     let h = c.requires.d_len in
     started c.args.n c.args.a.now _ _ _ c.args.d.now _ c.args.e.now _ c.args.p.now _ h.0 h.1 h.2
-    c.copy_from_slice.ensures.after c.start_diagonal.ensures c.clear-2.ensures c.clear-3.ensures c.count_up.ensures c.begun.ensures
+    c.copy.ensures c.start_diagonal.ensures c.clear-2.ensures c.clear-3.ensures c.count_up.ensures c.begun.ensures

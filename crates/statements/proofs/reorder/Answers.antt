@@ -20,4 +20,4 @@ unfolding reorder
 reorder-is n k p ec e r h q g = rw (h, q) at g
 
 pub returns : goal.returns
-returns c = reorder-is _ _ _ _ _ _ c.requires.p_len.0 c.copy_from_slice.ensures.after (counting_end c.loop-i.invariant (search rules))
+returns c = reorder-is _ _ _ _ _ _ c.requires.p_len.0 c.copy.ensures (counting_end c.loop-i.invariant (search rules))
