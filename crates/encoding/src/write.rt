@@ -19,11 +19,15 @@ pub fn clear_bytes(b: &mut [u8])
     b.fill(0);
 }
 
+// By elements, which becomes one store: the library's copy_from_slice asks each time whether the two places overlap.
 pub fn write_number(out: &mut [u8], at: usize, v: u64) -> usize
     requires { at + 8 ≤ length out.old }
     ensures { (out.new ≡ over out.old at (bytes 8 v)) × (result ≡ at + 8) }
 {
-    out[at..at + 8].copy_from_slice(&v.to_le_bytes());
+    let eight = v.to_le_bytes();
+    for (k, byte) in eight.iter().enumerate() {
+        out[at + k] = *byte;
+    }
     at + 8
 }
 
